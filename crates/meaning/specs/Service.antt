@@ -1,0 +1,91 @@
+-- Document 01, The four services: the complete outcome of each, on every input.
+--   checkAnswer ..                  the refusal's number, 0 if accepted
+--   expandAnswer .., expandAfter ..  what the service returns, and what stands in the lent buffer afterwards; so for value and translate
+--   judgeAnswer ..                  what the judge returns; it lends nothing
+-- A refusal returns its number, other numbers 0, and leaves the buffer as it was.
+use Prim.Native.Nat.{ℕ, pred}
+use mathlib.Core.Bool.{Bool, true, false, cond}
+use mathlib.Core.List.{List, [], _∷_}
+use lib.ListN.{length}
+use lib.Dec.{eqb}
+use Rattle.meaning.specs.Run.{each, tabulate, written, cellOf}
+use Rattle.meaning.specs.Record.{count, kindAt, sortOf, Sort, formula, path}
+use Rattle.meaning.specs.Tree.{formAt, postorder}
+use Rattle.meaning.specs.Value.{Row, valueOf}
+use Rattle.meaning.specs.Rule.{words}
+use Rattle.meaning.specs.Translation.{translation}
+use Rattle.meaning.specs.Judge.{Verdict, verdict}
+use Rattle.meaning.specs.Refusal.{firstOf, checkGrounds, expandGrounds, valueGrounds, translateGrounds, judgeGrounds, wholeForm}
+
+-- What is given where the refusal is 0, and what else.
+abbrev pub accepted : {T : Type 0} → ℕ → T → T → T
+accepted refusal given refused = cond (eqb refusal 0) given refused
+
+-- ---- check
+unfoldable pub checkAnswer : List ℕ → ℕ → ℕ
+checkAnswer s A = firstOf (checkGrounds s A)
+
+-- ---- expand
+pub record Counted : Type 0 where
+  pub refusal : ℕ
+  pub count : ℕ
+
+unfoldable pub expandAnswer : List ℕ → ℕ → List ℕ → Counted
+expandAnswer s A out =
+    let refusal = firstOf (expandGrounds s A (length out)) in
+    record { refusal = refusal; count = accepted refusal (wholeForm s) 0 }
+
+unfoldable pub expandAfter : List ℕ → ℕ → List ℕ → List ℕ
+expandAfter s A out = accepted (expandAnswer s A out .refusal) (written (postorder (formAt s (pred (count s)))) out) out
+
+-- ---- value
+pub record Valued : Type 0 where
+  pub refusal : ℕ
+  pub value : ℕ
+
+-- Row r of the table: the values of record r; a path's are 0.
+unfoldable pub rowBy : Sort → Row → Row
+rowBy formula values = values
+rowBy path values = λ k. 0
+
+unfoldable pub rowOf : List ℕ → ℕ → ℕ → List ℕ → ℕ → Row
+rowOf s A L cells r = rowBy (sortOf (kindAt s r)) (valueOf L (cellOf A cells) (formAt s r))
+
+unfoldable pub table : List ℕ → ℕ → ℕ → List ℕ → List ℕ
+table s A L cells = each (count s) (λ r. tabulate L (rowOf s A L cells r))
+
+unfoldable pub valueAnswer : List ℕ → ℕ → ℕ → List ℕ → List ℕ → Valued
+valueAnswer s A L cells out =
+    let refusal = firstOf (valueGrounds s A L cells (length out)) in
+    record { refusal = refusal; value = accepted refusal (valueOf L (cellOf A cells) (formAt s (pred (count s))) 0) 0 }
+
+unfoldable pub valueAfter : List ℕ → ℕ → ℕ → List ℕ → List ℕ → List ℕ
+valueAfter s A L cells out = accepted (valueAnswer s A L cells out .refusal) (written (table s A L cells) out) out
+
+-- ---- translate
+unfoldable pub translateAnswer : List ℕ → ℕ → List ℕ → Counted
+translateAnswer s A out =
+    let refusal = firstOf (translateGrounds s A (length out)) in
+    record { refusal = refusal; count = accepted refusal (length (translation s A)) 0 }
+
+unfoldable pub translateAfter : List ℕ → ℕ → List ℕ → List ℕ
+translateAfter s A out = accepted (translateAnswer s A out .refusal) (written (words (translation s A)) out) out
+
+-- ---- judge
+pub record Judged : Type 0 where
+  pub refusal : ℕ
+  pub holds : ℕ
+  pub rule : ℕ
+  pub instant : ℕ
+
+abbrev pub judged : ℕ → ℕ → ℕ → ℕ → Judged
+judged refusal holds rule instant = record { refusal = refusal; holds = holds; rule = rule; instant = instant }
+
+unfoldable pub told : Verdict → Judged
+told Verdict.yes = judged 0 1 0 0
+told (Verdict.no i k) = judged 0 0 i k
+
+unfoldable pub judgeAnswer : List ℕ → ℕ → ℕ → List ℕ → Judged
+judgeAnswer ws W L cells =
+    let refusal = firstOf (judgeGrounds ws W L cells) in
+    accepted refusal (told (verdict ws L (cellOf W cells))) (judged refusal 0 0 0)
