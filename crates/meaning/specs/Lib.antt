@@ -10,4 +10,5 @@ pub mod Rule
 pub mod Translation
 pub mod Judge
 pub mod Refusal
+pub mod WellFormed
 pub mod Service

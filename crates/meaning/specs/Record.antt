@@ -8,7 +8,7 @@
 --   sortOf kind                 whether such a record is a formula or a path
 --   useA kind, useB kind        what its fields hold
 --   known full kind             whether a service takes the kind: `full` is true for the expander
-use Prim.Native.Nat.{ℕ, zero, suc, _+_, _*_, _/_, _%_}
+use Prim.Native.Nat.{ℕ, _+_, _*_, _/_, _%_}
 use mathlib.Core.Bool.{Bool, true, false}
 use mathlib.Core.List.{List, [], _∷_, _++_}
 use lib.ListN.{length, getD, replicate}
@@ -23,24 +23,21 @@ mostRecords = 255
 abbrev pub count : List ℕ → ℕ
 count s = length s / recordSize
 
-abbrev pub byteOf : List ℕ → ℕ → ℕ → ℕ
-byteOf s r i = getD s (recordSize * r + i) 0
-
 -- Two bytes, low byte first.
-abbrev pub wordOf : List ℕ → ℕ → ℕ → ℕ
-wordOf s r i = byteOf s r i + 256 * byteOf s r (i + 1)
+abbrev pub word : List ℕ → ℕ → ℕ
+word s i = getD s i 0 + 256 * getD s (i + 1) 0
 
 abbrev pub kindByte : List ℕ → ℕ → ℕ
-kindByte s r = byteOf s r 0
+kindByte s r = getD s (recordSize * r) 0
 
 abbrev pub zeroByte : List ℕ → ℕ → ℕ
-zeroByte s r = byteOf s r 1
+zeroByte s r = getD s (recordSize * r + 1) 0
 
 abbrev pub fieldA : List ℕ → ℕ → ℕ
-fieldA s r = wordOf s r 2
+fieldA s r = word s (recordSize * r + 2)
 
 abbrev pub fieldB : List ℕ → ℕ → ℕ
-fieldB s r = wordOf s r 4
+fieldB s r = word s (recordSize * r + 4)
 
 abbrev pub recordBytes : ℕ → ℕ → ℕ → List ℕ
 recordBytes kind a b = kind ∷ 0 ∷ a % 256 ∷ a / 256 ∷ b % 256 ∷ b / 256 ∷ []

@@ -3,16 +3,16 @@
 --   firstOf grounds   the number of the first that applies, 0 if none does
 --   ground1 ..        the conditions, s being the record bytes, r a record, A the number of atoms
 --   checkGrounds ..   a service's conditions in their order
-use Prim.Native.Nat.{ℕ, zero, suc, pred, _+_, _*_, _%_}
+use Prim.Native.Nat.{ℕ, pred, _+_, _*_, _%_}
 use mathlib.Core.Bool.{Bool, true, false, cond, not, _&&_, _||_}
 use mathlib.Core.List.{List, [], _∷_, _++_}
 use lib.ListN.{length, getD}
 use lib.Dec.{leb, ltb, eqb}
 use Rattle.meaning.specs.Run.{each}
-use Rattle.meaning.specs.Record.{recordSize, mostRecords, count, zeroByte, fieldA, fieldB, kindAt, Kind, Sort, Use, unused, atomNumber, child, useA, useB, sortOf, known, Way, ahead, back}
-use Rattle.meaning.specs.Formula.{Path, mayStand, goes}
+use Rattle.meaning.specs.Record.{recordSize, mostRecords, count, zeroByte, fieldA, fieldB, kindAt, Kind, Sort, Use, unused, atomNumber, child, useA, useB, sortOf, known, ahead, back}
+use Rattle.meaning.specs.Formula.{mayStand, goes}
 use Rattle.meaning.specs.Tree.{formAt, pathAt, formSize}
-use Rattle.meaning.specs.Rule.{Rule, ruleSize, ruleAt, wordAt, symbolOf, isPrevious}
+use Rattle.meaning.specs.Rule.{Rule, ruleSize, ruleAt, symbolOf, isPrevious}
 use Rattle.meaning.specs.Translation.{places, translation}
 use Rattle.meaning.specs.Judge.{ruleCount}
 
@@ -54,14 +54,14 @@ late (child sort) v r = leb r v
 unfoldable pub ground4 : List ℕ → ℕ → Ground
 ground4 s r = ground 4 (late (useA (kindAt s r)) (fieldA s r) r || late (useB (kindAt s r)) (fieldB s r) r)
 
--- 5: an atom number A or more. Only field a holds one.
+-- 5: an atom number A or more.
 unfoldable pub beyond : Use → ℕ → ℕ → Bool
 beyond unused v A = false
 beyond atomNumber v A = leb A v
 beyond (child sort) v A = false
 
 unfoldable pub ground5 : List ℕ → ℕ → ℕ → Ground
-ground5 s A r = ground 5 (beyond (useA (kindAt s r)) (fieldA s r) A)
+ground5 s A r = ground 5 (beyond (useA (kindAt s r)) (fieldA s r) A || beyond (useB (kindAt s r)) (fieldB s r) A)
 
 -- 6: a child of the wrong sort; or the last record is a path.
 unfoldable pub differ : Sort → Sort → Bool

@@ -7,9 +7,9 @@
 --   holds cell ρ k          whether the rule ρ holds at instant k
 use Prim.Native.Nat.{ℕ, zero, suc, pred, _+_, _*_, _/_, _%_, min, max}
 use mathlib.Core.Bool.{Bool, true, false, cond}
-use mathlib.Core.List.{List, [], _∷_, _++_}
+use mathlib.Core.List.{List, [], _∷_}
 use lib.ListN.{getD}
-use lib.Dec.{leb, ltb, eqb}
+use lib.Dec.{ltb, eqb}
 use Rattle.meaning.specs.Three.{imp, negation}
 
 pub record Rule : Type 0 where
@@ -32,12 +32,12 @@ unfoldable pub words : List Rule → List ℕ
 words [] = []
 words (ρ ∷ ρs) = ρ .place ∷ ρ .body1 ∷ ρ .body2 ∷ ρ .head1 ∷ ρ .head2 ∷ ρ .head3 ∷ words ρs
 
-abbrev pub wordAt : List ℕ → ℕ → ℕ → ℕ
-wordAt ws i j = getD ws (ruleSize * i + j) 0
+abbrev pub ruleWord : List ℕ → ℕ → ℕ → ℕ
+ruleWord ws i j = getD ws (ruleSize * i + j) 0
 
 unfoldable pub ruleAt : List ℕ → ℕ → Rule
 ruleAt ws i =
-    record { place = wordAt ws i 0; body1 = wordAt ws i 1; body2 = wordAt ws i 2; head1 = wordAt ws i 3; head2 = wordAt ws i 4; head3 = wordAt ws i 5 }
+    record { place = ruleWord ws i 0; body1 = ruleWord ws i 1; body2 = ruleWord ws i 2; head1 = ruleWord ws i 3; head2 = ruleWord ws i 4; head3 = ruleWord ws i 5 }
 
 -- ---- literals: a symbol, with marks for the previous instant and for negation
 abbrev pub previously : ℕ → ℕ

@@ -1,0 +1,20 @@
+// Formula records: reading them from bytes, and checking them.
+mod layout;
+mod shape;
+mod fault;
+
+ghost use mathlib.Core.Path.{_≡_};
+ghost use Rattle.meaning.specs.Service.{checkAnswer};
+
+// The number of the first refusal that applies to the records, over so many atoms; 0 if they are accepted.
+pub fn check(records: &[u8], atoms: u64) -> u8
+    ensures { λ x. ⌜ x ≡ checkAnswer (now (records .entry)) atoms ⌝ }
+{
+    if fault::wrong_length(records) {
+        return 1;
+    }
+    if fault::too_many(atoms) {
+        return 8;
+    }
+    fault::tree_refusal(records, false, atoms)
+}
