@@ -12,3 +12,4 @@ pub mod Judge
 pub mod Refusal
 pub mod WellFormed
 pub mod Service
+pub mod Examples

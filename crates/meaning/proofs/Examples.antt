@@ -1,0 +1,55 @@
+-- The examples are computed: each side of an equation is run through the definitions, which are all open here.
+use mathlib.Core.Path.{refl}
+use Rattle.meaning.specs.Three.{imp, greatest, least}
+use Rattle.meaning.specs.Run.{each, tabulate, written}
+use Rattle.meaning.specs.Record.{kinds, kindOf, sortOf, argumentA, argumentB, useA, useB, known}
+use Rattle.meaning.specs.Formula.{mayStand, sameWay, goes}
+use Rattle.meaning.specs.Shorthand.{expansion}
+use Rattle.meaning.specs.Tree.{asForm, asPath, nodeOf, trees, treeAt, formSize, pathSize, modalNumber, moveNumber, formFrom, pathFrom}
+use Rattle.meaning.specs.Value.{moveSquare, testSquare, choiceSquare, sequenceSquare, passes, starSquare, diamondRow, boxRow, modalRow, valueOf, squareOf}
+use Rattle.meaning.specs.Rule.{words}
+use Rattle.meaning.specs.Translation.{names, uses, placesIn, parentIn, handed, contextIn, edge, joined, tested, moved, rulesOf, rulesAt, translation}
+use Rattle.meaning.specs.Refusal.{firstOf, ground1, ground2, stray, ground3, late, ground4, beyond, ground5, differ, misfit, ground6, ground6-last, ground7, ground8, ground8-cells, grounds9, ground10, isStar, ground11, ground12, ground14, recordGrounds, treeGrounds, starGrounds, expandGrounds, valueGrounds, translateGrounds}
+use Rattle.meaning.specs.Service.{expandAnswer, expandAfter, rowBy, rowOf, table, valueAnswer, valueAfter, translateAnswer, translateAfter}
+use Rattle.meaning.specs.Examples.{Expands, Worth, Starred, Others}
+
+-- Every definition that an example runs through.
+open-all : Unit {0}
+unfolding imp greatest least each tabulate written kinds kindOf sortOf argumentA argumentB useA useB known mayStand sameWay goes expansion asForm asPath nodeOf trees treeAt formSize pathSize modalNumber moveNumber formFrom pathFrom moveSquare testSquare choiceSquare sequenceSquare passes starSquare diamondRow boxRow modalRow valueOf squareOf words names uses placesIn parentIn handed contextIn edge joined tested moved rulesOf rulesAt translation firstOf ground1 ground2 stray ground3 late ground4 beyond ground5 differ misfit ground6 ground6-last ground7 ground8 ground8-cells grounds9 ground10 isStar ground11 ground12 ground14 recordGrounds treeGrounds starGrounds expandGrounds valueGrounds translateGrounds expandAnswer expandAfter rowBy rowOf table valueAnswer valueAfter translateAnswer translateAfter
+open-all = tt
+
+pub starred : Starred
+unfolding open-all
+starred =
+    record {
+      a = record { accepted = refl; values = refl };
+      a-expands = record { answer = refl; records = refl };
+      b = record { accepted = refl; values = refl };
+      b-rules = refl;
+      c = record { accepted = refl; values = refl };
+      c-rules = refl;
+      d = record { accepted = refl; values = refl };
+      d-refused = refl;
+      e = record { accepted = refl; values = refl };
+      e-refused = refl;
+      f = record { accepted = refl; values = refl };
+      f-rules = refl;
+      g = record { accepted = refl; values = refl };
+      g-expands = record { answer = refl; records = refl };
+      h = record { accepted = refl; values = refl };
+      h-expands = record { answer = refl; records = refl };
+      i = record { accepted = refl; values = refl };
+      j = record { accepted = refl; values = refl };
+      k = record { accepted = refl; values = refl };
+      m = record { accepted = refl; values = refl };
+      m-expands = record { answer = refl; records = refl }
+    }
+
+pub others : Others
+unfolding open-all
+others =
+    record {
+      n-box = record { accepted = refl; values = refl };
+      n-diamond = record { accepted = refl; values = refl };
+      printed = refl
+    }
