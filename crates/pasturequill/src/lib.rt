@@ -1,0 +1,12 @@
+// The front door: the services as a C program calls them. No function here has a `requires`; each states its complete outcome,
+// the answer and every lent buffer, on every input. Document 01's words for these are in the crate `meaning`, in specs/Service.
+ghost use mathlib.Core.Path.{_≡_};
+ghost use Rattle.meaning.specs.Service.{checkAnswer};
+
+// Check: 0 if the bytes are the records of a formula over so many atoms, else the number of the first refusal that applies.
+#[no_mangle]
+pub extern "C" fn pasturequill_check(records: &[u8], atoms: u64) -> u8
+    ensures { λ x. ⌜ x ≡ checkAnswer (now (records .entry)) atoms ⌝ }
+{
+    records::check(records, atoms)
+}

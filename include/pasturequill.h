@@ -1,0 +1,83 @@
+/* Pasturequill: rules of conduct for robots.
+ *
+ * A formula is a run of six-byte records: kind, a zero byte, field a and field b (two bytes each, low byte first). A child's record
+ * stands before its parent's; the last record is the whole formula. A program that checks "p until q", written in core records:
+ *
+ *     #include <stdio.h>
+ *     #include "pasturequill.h"
+ *
+ *     int main(void)
+ *     {
+ *         static const uint8_t until[] = {
+ *             PASTUREQUILL_ATOM,     0, 0, 0, 0, 0,    // 0: p
+ *             PASTUREQUILL_TEST,     0, 0, 0, 0, 0,    // 1: p?
+ *             PASTUREQUILL_STEP,     0, 0, 0, 0, 0,    // 2: step
+ *             PASTUREQUILL_SEQUENCE, 0, 1, 0, 2, 0,    // 3: p? ; step
+ *             PASTUREQUILL_STAR,     0, 3, 0, 0, 0,    // 4: (p? ; step)*
+ *             PASTUREQUILL_ATOM,     0, 1, 0, 0, 0,    // 5: q
+ *             PASTUREQUILL_DIAMOND,  0, 4, 0, 5, 0,    // 6: <(p? ; step)*>q
+ *         };
+ *         printf("%d\n", pasturequill_check(until, sizeof until, 2));
+ *     }
+ *
+ * examples/planner.c is a longer one. Link with libpasturequill.a.
+ *
+ * Every function takes any bytes, lengths and numbers and gives an answer. A slice is a pointer and the number of its elements, which
+ * must be readable (writable, where the pointer is not const); where the number is 0 the pointer is not read. What each function
+ * answers is proved for all inputs: crates/pasturequill states it by the definitions in crates/meaning. */
+#ifndef PASTUREQUILL_H
+#define PASTUREQUILL_H
+
+#include <stddef.h>
+#include <stdint.h>
+
+#ifdef __cplusplus
+extern "C" {
+#endif
+
+/* ---- sizes */
+enum {
+    PASTUREQUILL_RECORD_SIZE = 6,    /* bytes of one record */
+    PASTUREQUILL_MOST_RECORDS = 255, /* records of one formula */
+    PASTUREQUILL_MOST_ATOMS = 32
+};
+
+/* ---- kinds: F is a formula, P a path; what fields a and b hold stands behind each, and a field that holds nothing is zero */
+enum {
+    PASTUREQUILL_FALSE = 0,     /* F                    */
+    PASTUREQUILL_TRUE = 1,      /* F                    */
+    PASTUREQUILL_ATOM = 2,      /* F: a the atom's number */
+    PASTUREQUILL_DIAMOND = 3,   /* F: a a path, b a formula */
+    PASTUREQUILL_BOX = 4,       /* F: a a path, b a formula */
+    PASTUREQUILL_STEP = 5,      /* P                    */
+    PASTUREQUILL_BACK = 6,      /* P                    */
+    PASTUREQUILL_TEST = 7,      /* P: a a formula       */
+    PASTUREQUILL_CHOICE = 8,    /* P: a and b paths     */
+    PASTUREQUILL_SEQUENCE = 9,  /* P: a and b paths     */
+    PASTUREQUILL_STAR = 10      /* P: a a path          */
+};
+
+/* ---- refusals: the number that is given back where an input is not accepted */
+enum {
+    PASTUREQUILL_ACCEPTED = 0,
+    PASTUREQUILL_WRONG_LENGTH = 1,  /* no record bytes, not a multiple of 6, or over 1,530 */
+    PASTUREQUILL_UNKNOWN_KIND = 2,  /* a kind that the service does not take */
+    PASTUREQUILL_NOT_ZERO = 3,      /* the zero byte or an unused field isn't zero */
+    PASTUREQUILL_LATE_CHILD = 4,    /* a child isn't earlier than its parent */
+    PASTUREQUILL_NO_SUCH_ATOM = 5,  /* an atom number that is not below the number of atoms */
+    PASTUREQUILL_WRONG_SORT = 6,    /* a formula where a path belongs or a path where a formula does; the last record is a path */
+    PASTUREQUILL_NOT_A_TREE = 7,    /* a record before the last is the child of no place or of several */
+    PASTUREQUILL_WRONG_SIZE = 8     /* over 32 atoms */
+};
+
+/* Whether the bytes are the records of a formula over so many atoms, numbered from 0.
+ *   records, records_size   any bytes
+ *   atoms                   any number; 0 to 32 are taken
+ * Gives 0, or the first of these that applies: 1; 8; for each record from the first 2, 3, 4, 5, 6; 6 for the last record; 7. */
+uint8_t pasturequill_check(const uint8_t *records, size_t records_size, uint64_t atoms);
+
+#ifdef __cplusplus
+}
+#endif
+
+#endif
