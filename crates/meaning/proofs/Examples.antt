@@ -11,7 +11,7 @@ use Rattle.meaning.specs.Rule.{words}
 use Rattle.meaning.specs.Translation.{names, uses, placesIn, parentIn, handed, contextIn, edge, joined, tested, moved, rulesOf, rulesAt, translation}
 use Rattle.meaning.specs.Refusal.{firstOf, ground1, ground2, stray, ground3, late, ground4, beyond, ground5, differ, misfit, ground6, ground6-last, ground7, ground8, ground8-cells, grounds9, ground10, isStar, ground11, ground12, ground14, recordGrounds, treeGrounds, starGrounds, expandGrounds, valueGrounds, translateGrounds}
 use Rattle.meaning.specs.Service.{expandAnswer, expandAfter, rowBy, rowOf, table, valueAnswer, valueAfter, translateAnswer, translateAfter}
-use Rattle.meaning.specs.Examples.{Expands, Worth, Starred, Others}
+use Rattle.meaning.specs.Examples.{Starred, Others}
 
 -- Every definition that an example runs through.
 open-all : Unit {0}
@@ -42,7 +42,7 @@ starred =
       j = record { accepted = refl; values = refl };
       k = record { accepted = refl; values = refl };
       m = record { accepted = refl; values = refl };
-      m-expands = record { answer = refl; records = refl }
+      m-expands = record { answer = refl; records = refl };
     }
 
 pub others : Others
@@ -51,5 +51,5 @@ others =
     record {
       n-box = record { accepted = refl; values = refl };
       n-diamond = record { accepted = refl; values = refl };
-      printed = refl
+      printed = refl;
     }

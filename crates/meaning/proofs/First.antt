@@ -1,14 +1,14 @@
 -- The first ground that applies. A list of grounds is clear if none applies; what stands behind a clear list decides, and what stands
 -- behind one that has given its number does not. So a scan that goes on while nothing was found gives the first number of the whole list.
-use Prim.Native.Nat.{ℕ, zero, suc, _+_, _<_, _≤_}
-use mathlib.Core.Path.{_≡_, refl, sym, ap, _∙_}
+use Prim.Native.Nat.{ℕ, zero, suc, _+_, _<_}
+use mathlib.Core.Path.{_≡_, refl, sym, _∙_}
 use mathlib.Core.Bool.{Bool, true, false, cond}
 use mathlib.Core.Logic.{_⊎_, inl, inr, ⊎-elim, _↔_}
 use mathlib.Core.List.{List, [], _∷_, _++_}
 use native.Mathlib.Nat.{le-refl, eq-or-lt-of-le, le-of-suc-le-suc}
 use native.Mathlib.Omega.{arith}
 use Rattle.meaning.specs.Run.{each}
-use Rattle.meaning.specs.Refusal.{Ground, ground, firstOf}
+use Rattle.meaning.specs.Refusal.{Ground, firstOf}
 
 -- No ground applies.
 abbrev pub Clear : List Ground → Type 0

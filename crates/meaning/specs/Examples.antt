@@ -8,7 +8,7 @@
 use Prim.Native.Nat.{ℕ, pred, _*_}
 use mathlib.Core.Path.{_≡_}
 use mathlib.Core.List.{List, [], _∷_, _++_}
-use lib.ListN.{length, drop, take, replicate}
+use lib.ListN.{length, drop, replicate}
 use Rattle.meaning.specs.Record.{count, recordBytes}
 use Rattle.meaning.specs.Service.{Counted, expandAnswer, expandAfter, valueAnswer, valueAfter, translateAnswer, translateAfter}
 
@@ -122,11 +122,11 @@ pub record Others : Type 0 where
   pub n-box : Worth weakNextP 1 1 (0 ∷ []) (2 ∷ [])
   pub n-diamond : Worth nextP 1 1 (2 ∷ []) (0 ∷ [])
   pub printed : translateAfter nextP 32 (room 48)
-    ≡ (2 ∷ 16_418 ∷ 1 ∷ 35 ∷ 0 ∷ 0 ∷ [])
-    ++ (2 ∷ 35 ∷ 1 ∷ 16_418 ∷ 0 ∷ 0 ∷ [])
-    ++ (3 ∷ 34 ∷ 1 ∷ 0 ∷ 0 ∷ 0 ∷ [])
-    ++ (0 ∷ 35 ∷ 1 ∷ 2 ∷ 0 ∷ 0 ∷ [])
-    ++ (0 ∷ 2 ∷ 1 ∷ 35 ∷ 0 ∷ 0 ∷ [])
-    ++ (0 ∷ 36 ∷ 1 ∷ 34 ∷ 0 ∷ 0 ∷ [])
-    ++ (0 ∷ 34 ∷ 1 ∷ 36 ∷ 0 ∷ 0 ∷ [])
-    ++ (1 ∷ 1 ∷ 1 ∷ 36 ∷ 0 ∷ 0 ∷ [])
+      ≡ (2 ∷ 16_418 ∷ 1 ∷ 35 ∷ 0 ∷ 0 ∷ [])
+      ++ (2 ∷ 35 ∷ 1 ∷ 16_418 ∷ 0 ∷ 0 ∷ [])
+      ++ (3 ∷ 34 ∷ 1 ∷ 0 ∷ 0 ∷ 0 ∷ [])
+      ++ (0 ∷ 35 ∷ 1 ∷ 2 ∷ 0 ∷ 0 ∷ [])
+      ++ (0 ∷ 2 ∷ 1 ∷ 35 ∷ 0 ∷ 0 ∷ [])
+      ++ (0 ∷ 36 ∷ 1 ∷ 34 ∷ 0 ∷ 0 ∷ [])
+      ++ (0 ∷ 34 ∷ 1 ∷ 36 ∷ 0 ∷ 0 ∷ [])
+      ++ (1 ∷ 1 ∷ 1 ∷ 36 ∷ 0 ∷ 0 ∷ [])

@@ -2,7 +2,7 @@
 --   failures ws L cell    the pairs of a rule and one of its instants where it fails, rules in order, instants in order
 --   verdict ..            yes, or the first of these pairs
 use Prim.Native.Nat.{ℕ, _/_}
-use mathlib.Core.Bool.{Bool, true, false, cond, not, _&&_}
+use mathlib.Core.Bool.{Bool, cond, not, _&&_}
 use mathlib.Core.List.{List, [], _∷_}
 use lib.ListN.{length}
 use Rattle.meaning.specs.Run.{each}

@@ -4,8 +4,8 @@
 --   judgeAnswer ..                  what the judge returns; it lends nothing
 -- A refusal returns its number, other numbers 0, and leaves the buffer as it was.
 use Prim.Native.Nat.{ℕ, pred}
-use mathlib.Core.Bool.{Bool, true, false, cond}
-use mathlib.Core.List.{List, [], _∷_}
+use mathlib.Core.Bool.{cond}
+use mathlib.Core.List.{List}
 use lib.ListN.{length}
 use lib.Dec.{eqb}
 use Rattle.meaning.specs.Run.{each, tabulate, written, cellOf}

@@ -3,7 +3,7 @@
 --   formSize F, pathSize P    how many records they take
 --   postorder F               the records of F: those of a, those of b, then the parent
 use Prim.Native.Nat.{ℕ, zero, suc, pred, _+_}
-use mathlib.Core.Bool.{Bool, true, false, cond}
+use mathlib.Core.Bool.{false, cond}
 use mathlib.Core.List.{List, [], _∷_, _++_}
 use lib.ListN.{getD}
 use Rattle.meaning.specs.Record.{Kind, Mode, diamond, box, Way, ahead, back, kindAt, fieldA, fieldB, recordBytes}

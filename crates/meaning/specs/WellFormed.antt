@@ -2,12 +2,12 @@
 -- nothing else (proofs/Accepted).
 --   Fits s A r use v        a field of record r that is used so may hold v
 --   WellFormed full s A     the records are a tree; `full` is true where shorthands may stand in it
-use Prim.Native.Nat.{ℕ, suc, pred, _+_, _*_, _<_, _≤_}
+use Prim.Native.Nat.{ℕ, suc, pred, _*_, _<_, _≤_}
 use mathlib.Core.Path.{_≡_}
 use mathlib.Core.Bool.{Bool, true}
 use mathlib.Core.List.{List}
 use lib.ListN.{length}
-use Rattle.meaning.specs.Record.{recordSize, mostRecords, count, kindAt, zeroByte, fieldA, fieldB, Use, unused, atomNumber, child, useA, useB, Sort, formula, sortOf, known}
+use Rattle.meaning.specs.Record.{recordSize, mostRecords, count, kindAt, zeroByte, fieldA, fieldB, Use, unused, atomNumber, child, useA, useB, formula, sortOf, known}
 use Rattle.meaning.specs.Translation.{places}
 use Rattle.meaning.specs.Refusal.{mostAtoms}
 

@@ -8,7 +8,6 @@ ghost use Rattle.meaning.specs.Record.{count, mostRecords};
 ghost use Rattle.meaning.specs.Refusal.{firstOf, ground1, ground7, ground8, stray, late, beyond, misfit, recordGrounds, treeGrounds};
 ghost use Rattle.records.specs.Code.{useOf};
 ghost use Rattle.records.specs.Places.{Added, Places};
-
 use crate::layout;
 use crate::shape;
 

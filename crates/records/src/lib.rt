@@ -1,7 +1,7 @@
 // Formula records: reading them from bytes, and checking them.
+mod fault;
 mod layout;
 mod shape;
-mod fault;
 
 ghost use mathlib.Core.Path.{_≡_};
 ghost use Rattle.meaning.specs.Service.{checkAnswer};
