@@ -1,0 +1,131 @@
+-- Refusal 0 means a tree. The first ground's number is 0 only where no ground applies, and a ground is a test, or several joined by "or",
+-- that fails exactly where a plain fact about the records holds. So no ground applies exactly where all these facts hold.
+use Prim.Native.Nat.{ℕ, _*_, _<_, _≤_}
+use mathlib.Core.Path.{_≡_, refl}
+use mathlib.Core.Bool.{Bool, true, false, not, _||_, true≢false}
+use mathlib.Core.Logic.{_≢_, _↔_}
+use mathlib.Core.List.{List, [], _∷_}
+use native.Mathlib.Omega.{arith}
+use lib.ListN.{length}
+use lib.Dec.{leb, eqb}
+use borrow.Author.Tests.{leb-false, eqb-true, eqb-false, not-false, lt-leb, eq-eqb, ne-eqb}
+use Rattle.meaning.specs.Run.{each}
+use Rattle.meaning.specs.Record.{recordSize, mostRecords, count, kindAt, zeroByte, fieldA, fieldB, known}
+use Rattle.meaning.specs.Record.{Sort, formula, path, Use, unused, atomNumber, child, useA, useB}
+use Rattle.meaning.specs.Refusal.{Ground, firstOf, recordGrounds, treeGrounds, checkGrounds, stray, late, beyond, differ, misfit}
+use Rattle.meaning.specs.Refusal.{ground1, ground2, ground3, ground4, ground5, ground6, ground6-last, ground7, ground8}
+use Rattle.meaning.specs.WellFormed.{Fits, WellFormed}
+use Rattle.meaning.specs.Service.{checkAnswer}
+use Rattle.meaning.proofs.First.{Clear, Numbered, clear-none, none-clear, clear-append, clear-each, each-clear}
+use Rattle.meaning.proofs.First.{numbered-append, numbered-each}
+
+-- ---- where a test fails
+-- Neither of two.
+or-fails : (a b : Bool) → ((a || b) ≡ false) ↔ ((a ≡ false) × (b ≡ false))
+or-fails true b = (λ e. absurd (true≢false e), λ p. p .0)
+or-fails false b = (λ e. (refl, e), λ p. p .1)
+
+-- A negated one fails where the test holds.
+not-fails : (b : Bool) → (not b ≡ false) ↔ (b ≡ true)
+not-fails b = (not-false b, λ e. rw e)
+
+-- Tests of numbers.
+eqb-holds : (a b : ℕ) → (eqb a b ≡ true) ↔ (a ≡ b)
+eqb-holds a b = (eqb-true a b, eq-eqb a b)
+
+eqb-fails : (a b : ℕ) → (eqb a b ≡ false) ↔ (a ≢ b)
+eqb-fails a b = (eqb-false a b, ne-eqb a b)
+
+leb-fails : (a b : ℕ) → (leb a b ≡ false) ↔ (b < a)
+leb-fails a b = (leb-false a b, lt-leb a b)
+
+-- The test of sorts.
+differ-fails : (σ τ : Sort) → (differ σ τ ≡ false) ↔ (τ ≡ σ)
+unfolding differ
+differ-fails formula formula = (λ e. refl, λ e. refl)
+differ-fails formula path = (λ e. absurd (true≢false e), λ e. cc)
+differ-fails path formula = (λ e. absurd (true≢false e), λ e. cc)
+differ-fails path path = (λ e. refl, λ e. refl)
+
+ruleset tests = (or-fails, not-fails, eqb-holds, eqb-fails, leb-fails, differ-fails)
+
+-- ---- where a ground does not apply
+-- 1: the bytes are whole records, at least one and not too many.
+ground1-fails : (s : List ℕ)
+    → (ground1 s .applies ≡ false) ↔ ((length s ≡ recordSize * count s) × (0 < count s) × (count s ≤ mostRecords))
+unfolding ground1
+ground1-fails s = simp tests (omega arith)
+
+-- The grounds of each record in turn: those of every record.
+each-clears : (f : ℕ → List Ground) (n : ℕ) → Clear (each n f) ↔ ((i : ℕ) → i < n → Clear (f i))
+each-clears f n = (clear-each f n, each-clear f n)
+
+module _ (full : Bool) (s : List ℕ) (A : ℕ) where
+  module _ (r : ℕ) where
+    -- 3 to 6 for one field, by what it holds: v is what may stand there.
+    field-fits : (u : Use) (v : ℕ)
+        → ((stray u v ≡ false) × (late u v r ≡ false) × (beyond u v A ≡ false) × (misfit s u v ≡ false)) ↔ Fits s A r u v
+    unfolding stray late beyond misfit
+    field-fits unused v = simp tests (λ h. h .0, λ h. (h, refl, refl, refl))
+    field-fits atomNumber v = simp tests (λ h. h .2, λ h. (refl, refl, h, refl))
+    field-fits (child σ) v = simp tests (λ h. (h .1, h .3), λ h. (refl, h .0, refl, h .1))
+
+    -- What is asked of one record: its kind, its zero byte, its two fields.
+    abbrev Sound : Type 0
+    Sound =
+        (known full (kindAt s r) ≡ true) × (zeroByte s r ≡ 0)
+        × Fits s A r (useA (kindAt s r)) (fieldA s r) × Fits s A r (useB (kindAt s r)) (fieldB s r)
+
+    -- 2 to 6 for one record.
+    record-clears : Clear (recordGrounds full s A r) ↔ Sound
+    unfolding recordGrounds ground2 ground3 ground4 ground5 ground6
+    record-clears = simp tests (
+      λ (k, (((z, sa), sb), ((la, lb), ((ba, bb), ((ma, mb), u))))).
+          (k, z, field-fits _ _ .0 (sa, la, ba, ma), field-fits _ _ .0 (sb, lb, bb, mb)),
+      λ (k, z, a, b).
+          let (sa, la, ba, ma) = field-fits _ _ .1 a in
+          let (sb, lb, bb, mb) = field-fits _ _ .1 b in
+          (k, (((z, sa), sb), ((la, lb), ((ba, bb), ((ma, mb), tt))))),
+    )
+
+  -- All of them: the records are a tree.
+  pub clear-well-formed : Clear (ground1 s ∷ ground8 A ∷ treeGrounds full s A) ↔ WellFormed full s A
+  unfolding treeGrounds ground8 ground6-last ground7
+  clear-well-formed = simp (clear-append, each-clears, ground1-fails, record-clears, tests) (
+    λ ((w, m, f), (a, (h, (l, o)))). record {
+      whole = w;
+      some = m;
+      few = f;
+      atoms = omega arith;
+      kinds = λ r b. h r b .0;
+      zeros = λ r b. h r b .1;
+      first = λ r b. h r b .2;
+      second = λ r b. h r b .3;
+      last = l;
+      once = λ r b. o r (omega arith) .0;
+    },
+    λ w.
+        let h : (r : ℕ) → r < count s → Sound r = λ r b. (w .kinds r b, w .zeros r b, w .first r b, w .second r b) in
+        ((w .whole, w .some, w .few), (omega arith, (h, (w .last, λ r b. (w .once r (omega arith), tt))))),
+  )
+
+  -- ---- where the number is 0
+  -- Each ground of a tree has a number above 0.
+  pub tree-numbered : Numbered (treeGrounds full s A)
+  unfolding treeGrounds recordGrounds ground2 ground3 ground4 ground5 ground6 ground6-last ground7
+  tree-numbered =
+      numbered-append (each _ (recordGrounds full s A)) (ground6-last s ∷ each _ (λ r. ground7 s r ∷ []))
+      (numbered-each _ _ (λ r. omega arith)) (omega arith, numbered-each _ _ (λ r. omega arith))
+
+  -- So the first number is 0 where the records are a tree, and only there.
+  pub accepted : (firstOf (ground1 s ∷ ground8 A ∷ treeGrounds full s A) ≡ 0) ↔ WellFormed full s A
+  unfolding ground1 ground8
+  accepted = (
+    λ e. clear-well-formed .0 (none-clear _ (omega arith, (omega arith, tree-numbered)) e),
+    λ w. clear-none _ (clear-well-formed .1 w),
+  )
+
+-- Check takes the core kinds alone.
+pub check-accepts : (s : List ℕ) (A : ℕ) → (checkAnswer s A ≡ 0) ↔ WellFormed false s A
+unfolding checkAnswer checkGrounds
+check-accepts = accepted false
