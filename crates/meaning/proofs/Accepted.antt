@@ -1,4 +1,4 @@
--- Refusal 0 means a tree. The first ground's number is 0 only where no ground applies, and a ground is a test, or several joined by "or",
+-- Refusal 0 means a tree. The first ground's number is 0 only where no ground applies; and a ground is a test, or several joined,
 -- that fails exactly where a plain fact about the records holds. So no ground applies exactly where all these facts hold.
 use Prim.Native.Nat.{ℕ, _*_, _<_, _≤_}
 use mathlib.Core.Path.{_≡_, refl}

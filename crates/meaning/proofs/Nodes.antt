@@ -1,0 +1,117 @@
+-- The tree of a record from its children's. The list of trees grows at its end alone, so a record's tree stays as it was put there;
+-- and a node looks at a tree only where a field is a child, which in well-formed records is an earlier record.
+use Prim.Native.Nat.{ℕ, zero, suc, _<_}
+use mathlib.Core.Path.{_≡_, refl, _∙_}
+use mathlib.Core.Bool.{Bool}
+use mathlib.Core.Logic.{⊎-elim}
+use mathlib.Core.List.{List}
+use native.Mathlib.Nat.{eq-or-lt-of-le, le-of-suc-le-suc}
+use native.Mathlib.Omega.{arith}
+use lib.ListN.{length, getD, length-append, List·getD-append}
+use lib.Seq.{getD-at}
+use Rattle.meaning.specs.Record.{Kind, constant, atom, modal, move, test, choice, sequence, star, shorthand, unknown}
+use Rattle.meaning.specs.Record.{Shorthand, negated, both, either, implies, end, beside, along, until, since}
+use Rattle.meaning.specs.Record.{Use, unused, atomNumber, child, useA, useB, argumentA, argumentB, Sort, sortOf}
+use Rattle.meaning.specs.Record.{count, kindAt, fieldA, fieldB}
+use Rattle.meaning.specs.Shorthand.{expansion}
+use Rattle.meaning.specs.Tree.{Tree, noTree, asForm, asPath, nodeOf, trees, treeAt}
+use Rattle.meaning.specs.WellFormed.{Fits, WellFormed}
+
+-- ---- the list of trees
+module _ (s : List ℕ) where
+  -- It has one tree for each record.
+  pub trees-length : (n : ℕ) → length (trees s n) ≡ n
+  unfolding trees
+  trees-length zero = refl
+  trees-length (suc n) = simp (length-append, trees-length n) (omega arith)
+
+  -- A record's tree is made of those before it.
+  pub tree-node : (r : ℕ) → treeAt s r ≡ nodeOf (kindAt s r) (fieldA s r) (fieldB s r) (λ q. getD (trees s r) q noTree)
+  unfolding trees treeAt
+  tree-node r = getD-at (trees s r) _ _ _ r (trees-length r)
+
+  -- It stays where it is put.
+  pub trees-settled : (n q : ℕ) → q < n → getD (trees s n) q noTree ≡ treeAt s q
+  unfolding trees treeAt
+  trees-settled zero q l = absurd (omega arith)
+  trees-settled (suc n) q l =
+      ⊎-elim
+      (λ (e : q ≡ n). rw e)
+      (λ (m : q < n). List·getD-append (trees s n) _ _ q (rw (trees-length n) m) ∙ trees-settled n q m)
+      (eq-or-lt-of-le (le-of-suc-le-suc l))
+
+-- ---- the trees that a node looks at
+-- A field that is a child has the same tree on both sides; of others nothing is asked.
+abbrev Agree : Use → Tree → Tree → Type 0
+Agree unused t t′ = Unit {0}
+Agree atomNumber t t′ = Unit {0}
+Agree (child σ) t t′ = t ≡ t′
+
+-- A shorthand looks at its arguments alone.
+expansion-agrees : (σ : Shorthand) (t t′ u u′ : Tree) → Agree (argumentA σ) t t′ → Agree (argumentB σ) u u′
+    → expansion σ (asForm t) (asForm u) ≡ expansion σ (asForm t′) (asForm u′)
+unfolding expansion argumentA argumentB
+expansion-agrees negated t t′ u u′ p q = cc
+expansion-agrees both t t′ u u′ p q = cc
+expansion-agrees either t t′ u u′ p q = cc
+expansion-agrees implies t t′ u u′ p q = cc
+expansion-agrees (end w) t t′ u u′ p q = cc
+expansion-agrees (beside w m) t t′ u u′ p q = cc
+expansion-agrees (along w m) t t′ u u′ p q = cc
+expansion-agrees until t t′ u u′ p q = cc
+expansion-agrees since t t′ u u′ p q = cc
+
+-- A node looks at its children alone.
+node-agrees : (K : Kind) (a b : ℕ) (t t′ : ℕ → Tree) → Agree (useA K) (t a) (t′ a) → Agree (useB K) (t b) (t′ b)
+    → nodeOf K a b t ≡ nodeOf K a b t′
+unfolding nodeOf useA useB
+node-agrees (constant v) a b t t′ p q = refl
+node-agrees atom a b t t′ p q = refl
+node-agrees (modal m) a b t t′ p q = cc
+node-agrees (move w) a b t t′ p q = refl
+node-agrees test a b t t′ p q = cc
+node-agrees choice a b t t′ p q = cc
+node-agrees sequence a b t t′ p q = cc
+node-agrees star a b t t′ p q = cc
+node-agrees (shorthand σ) a b t t′ p q = cc (expansion-agrees σ _ _ _ _ p q)
+node-agrees unknown a b t t′ p q = refl
+
+-- A child that fits is earlier, so its tree is settled.
+child-settled : (s : List ℕ) (A r : ℕ) (u : Use) (v : ℕ) → Fits s A r u v
+    → Agree u (getD (trees s r) v noTree) (treeAt s v)
+child-settled s A r unused v f = tt
+child-settled s A r atomNumber v f = tt
+child-settled s A r (child σ) v f = trees-settled s r v (f .0)
+
+-- The tree of a well-formed record is its node over the trees of its children.
+pub tree-of : {full : Bool} {s : List ℕ} {A : ℕ} → WellFormed full s A → (r : ℕ) → r < count s
+    → treeAt s r ≡ nodeOf (kindAt s r) (fieldA s r) (fieldB s r) (treeAt s)
+tree-of {s} {A} w r l =
+    let K = kindAt s r in
+    let a = child-settled s A r (useA K) (fieldA s r) (w .first r l) in
+    let b = child-settled s A r (useB K) (fieldB s r) (w .second r l) in
+    tree-node s r ∙ node-agrees K _ _ _ _ a b
+
+-- ---- the sort of a tree
+-- A tree taken as one of the sort.
+abbrev pub asSort : Sort → Tree → Tree
+asSort Sort.formula t = Tree.formula (asForm t)
+asSort Sort.path t = Tree.path (asPath t)
+
+-- A node is of its kind's sort.
+node-sort : (K : Kind) (a b : ℕ) (t : ℕ → Tree) → nodeOf K a b t ≡ asSort (sortOf K) (nodeOf K a b t)
+unfolding nodeOf sortOf asForm asPath
+node-sort (constant v) a b t = refl
+node-sort atom a b t = refl
+node-sort (modal m) a b t = refl
+node-sort (move w) a b t = refl
+node-sort test a b t = refl
+node-sort choice a b t = refl
+node-sort sequence a b t = refl
+node-sort star a b t = refl
+node-sort (shorthand σ) a b t = refl
+node-sort unknown a b t = refl
+
+-- So a record's tree is formula (formAt s r) or path (pathAt s r), by its sort.
+pub tree-sort : (s : List ℕ) (r : ℕ) (σ : Sort) → sortOf (kindAt s r) ≡ σ → treeAt s r ≡ asSort σ (treeAt s r)
+tree-sort s r σ e = rw (← e, tree-node s r) (node-sort _ _ _ _)
