@@ -1,0 +1,79 @@
+-- The greatest of f 0 .. f (n - 1) is at least each of them, and is one of them if there is any; the least is at most
+-- each, and no value that is at most each is above it. By induction on n: a number below suc n is n, or is below n.
+use Prim.Native.Nat.{ℕ, zero, suc, _≤_, _<_, zero-le}
+use mathlib.Core.Path.{_≡_, subst⁻¹}
+use mathlib.Core.Logic.{_⊎_, inl, inr}
+use native.Mathlib.Nat.{le-refl, le-antisymm, eq-or-lt-of-le, le-of-suc-le-suc}
+use native.Mathlib.Decide.{decLe}
+use native.Mathlib.Omega.{arith}
+use Rattle.meaning.specs.Three.{greatest, least}
+
+-- ---- numbers
+-- Of two numbers, the first is at most the second or above it.
+pub le-or-lt : (a b : ℕ) → (a ≤ b) ⊎ (b < a)
+le-or-lt a b = elim (decLe a b) [ yes h ↦ inl h | no h ↦ inr (omega arith) ]
+
+-- A number below suc n is n, or is below n.
+pub below-suc : {j n : ℕ} → j < suc n → (j ≡ n) ⊎ (j < n)
+below-suc h = eq-or-lt-of-le (le-of-suc-le-suc h)
+
+-- What holds below n, and of n, holds below suc n.
+pub all-suc : (P : ℕ → Type 0) (n : ℕ) → ((j : ℕ) → j < n → P j) → P n → (j : ℕ) → j < suc n → P j
+all-suc P n h p j l = elim (below-suc l) [ inl e ↦ subst⁻¹ P e p | inr m ↦ h j m ]
+
+-- a is at most b if each v above 0 that is at most a is at most b.
+pub le-above : (a b : ℕ) → ((v : ℕ) → 0 < v → v ≤ a → v ≤ b) → a ≤ b
+le-above zero b h = zero-le
+le-above (suc a) b h = h (suc a) (omega arith) (le-refl _)
+
+-- Two numbers are equal if the same v above 0 are at most them.
+pub same-above : (a b : ℕ) → ((v : ℕ) → 0 < v → v ≤ a → v ≤ b) → ((v : ℕ) → 0 < v → v ≤ b → v ≤ a) → a ≡ b
+same-above a b f g = le-antisymm (le-above a b f) (le-above b a g)
+
+-- ---- the greatest
+-- Each member is at most it.
+pub greatest-member : (n : ℕ) (f : ℕ → ℕ) (j : ℕ) → j < n → f j ≤ greatest n f
+unfolding greatest
+greatest-member zero f = λ j l. omega arith
+greatest-member (suc n) f =
+    all-suc (λ j. f j ≤ greatest (suc n) f) n (λ j l. omega (arith, greatest-member n f j l)) (omega arith)
+
+-- It is at most whatever each member is at most.
+pub greatest-within : (n : ℕ) (f : ℕ → ℕ) (u : ℕ) → ((j : ℕ) → j < n → f j ≤ u) → greatest n f ≤ u
+unfolding greatest
+greatest-within zero f u h = zero-le
+greatest-within (suc n) f u h = omega (arith, greatest-within n f u (λ j l. h j (omega arith)), h n (le-refl _))
+
+-- If there is a member, it is one.
+pub greatest-attained : (n : ℕ) (f : ℕ → ℕ) → (j : ℕ) × (j < suc n) × (greatest (suc n) f ≡ f j)
+unfolding greatest
+greatest-attained zero f = (0, le-refl _, omega arith)
+greatest-attained (suc n) f =
+    let (j, l, e) = greatest-attained n f in
+    elim (le-or-lt (f (suc n)) (f j))
+    [ inl h ↦ (j, omega arith, omega arith) | inr h ↦ (suc n, le-refl _, omega arith) ]
+
+-- What is at most it, and above 0, is at most some member.
+pub greatest-reached : (n : ℕ) (f : ℕ → ℕ) (v : ℕ) → 0 < v → v ≤ greatest n f → (j : ℕ) × (j < n) × (v ≤ f j)
+unfolding greatest
+greatest-reached zero f v z h = absurd (omega arith)
+greatest-reached (suc n) f v z h = let (j, l, e) = greatest-attained n f in (j, l, omega arith)
+
+-- ---- the least
+-- It is at most each member.
+pub least-member : (n : ℕ) (f : ℕ → ℕ) (j : ℕ) → j < n → least n f ≤ f j
+unfolding least
+least-member zero f = λ j l. omega arith
+least-member (suc n) f = all-suc (λ j. least (suc n) f ≤ f j) n (λ j l. omega (arith, least-member n f j l)) (omega arith)
+
+-- A value that is at most each member is at most it.
+pub le-least : (n : ℕ) (f : ℕ → ℕ) (t : ℕ) → t ≤ 2 → ((j : ℕ) → j < n → t ≤ f j) → t ≤ least n f
+unfolding least
+le-least zero f t b h = b
+le-least (suc n) f t b h = omega (arith, le-least n f t b (λ j l. h j (omega arith)), h n (le-refl _))
+
+-- It is a value.
+pub least-bound : (n : ℕ) (f : ℕ → ℕ) → least n f ≤ 2
+unfolding least
+least-bound zero f = le-refl 2
+least-bound (suc n) f = omega (arith, least-bound n f)

@@ -1,0 +1,53 @@
+-- The implication is the right adjoint of the smaller of two: t is at most the implication of v by u exactly if the
+-- smaller of t and u is at most v. Either u ≤ v, and both hold of every value t; or v < u, and both say that t ≤ v.
+use Prim.Native.Nat.{ℕ, _≤_, _<_, min}
+use mathlib.Core.Path.{_≡_, refl}
+use mathlib.Core.Logic.{_↔_, _⊎_, inl, inr}
+use mathlib.Core.Bool.{Bool, true, false, cond}
+use native.Mathlib.Omega.{arith}
+use lib.Dec.{leb}
+use borrow.Author.Tests.{leb-true, leb-false, ne-eqb}
+use Rattle.meaning.specs.Three.{imp, negation}
+
+-- An implication is told by comparing its two sides.
+by-comparison : (u v : ℕ) → ((u ≤ v) × (imp u v ≡ 2)) ⊎ ((v < u) × (imp u v ≡ v))
+unfolding imp
+by-comparison u v = go (leb u v) refl
+  where
+    go : (b : Bool) → leb u v ≡ b → ((u ≤ v) × (cond b 2 v ≡ 2)) ⊎ ((v < u) × (cond b 2 v ≡ v))
+    go true e = inl (leb-true u v e, refl)
+    go false e = inr (leb-false u v e, refl)
+
+-- From t at most the implication, and the premise, the conclusion.
+pub imp-elim : (t u v : ℕ) → t ≤ imp u v → min t u ≤ v
+imp-elim t u v h = elim (by-comparison u v) [ inl c ↦ omega arith | inr c ↦ omega arith ]
+
+-- A value that gives the conclusion with the premise is at most the implication.
+pub imp-intro : (t u v : ℕ) → t ≤ 2 → min t u ≤ v → t ≤ imp u v
+imp-intro t u v b h = elim (by-comparison u v) [ inl c ↦ omega arith | inr c ↦ omega arith ]
+
+-- Both together.
+pub imp-adjoint : (t u v : ℕ) → t ≤ 2 → (t ≤ imp u v) ↔ (min t u ≤ v)
+imp-adjoint t u v b = (imp-elim t u v, imp-intro t u v b)
+
+-- An implication of a value is a value.
+pub imp-bound : (u v : ℕ) → v ≤ 2 → imp u v ≤ 2
+imp-bound u v b = elim (by-comparison u v) [ inl c ↦ omega arith | inr c ↦ omega arith ]
+
+-- A premise that holds leaves the conclusion.
+pub imp-two : (v : ℕ) → v ≤ 2 → imp 2 v ≡ v
+imp-two v b = elim (by-comparison 2 v) [ inl c ↦ omega arith | inr c ↦ omega arith ]
+
+-- An implication holds exactly where its premise is at most its conclusion.
+pub imp-is-two : (u v : ℕ) → u ≤ 2 → (imp u v ≡ 2) ↔ (u ≤ v)
+imp-is-two u v b = elim (by-comparison u v) [ inl c ↦ (omega arith, omega arith) | inr c ↦ (omega arith, omega arith) ]
+
+-- The negation of 0 is 2.
+pub negation-zero : negation 0 ≡ 2
+unfolding negation
+negation-zero = refl
+
+-- The negation of every other value is 0.
+pub negation-positive : (u : ℕ) → 0 < u → negation u ≡ 0
+unfolding negation
+negation-positive u h = rw (ne-eqb u 0 (omega arith))

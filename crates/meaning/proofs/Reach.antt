@@ -1,0 +1,69 @@
+-- Where a path leads: to the instants j with a value above 0 from k to j. A move leads to the instant beside k; a
+-- test, and no pass of a star, to k itself; and a sequence by way of some instant below L.
+use Prim.Native.Nat.{ℕ, _+_, _≤_, _<_, min, zero-le}
+use mathlib.Core.Path.{_≡_, refl}
+use mathlib.Core.Bool.{Bool, true, false, cond}
+use native.Mathlib.Nat.{le-refl, le-trans, le-min}
+use native.Mathlib.Omega.{arith}
+use lib.Dec.{eqb}
+use borrow.Author.Tests.{eqb-true, eq-eqb}
+use Rattle.meaning.specs.Record.{Way, ahead, back}
+use Rattle.meaning.specs.Value.{Square, moveSquare, sequenceSquare}
+use Rattle.meaning.proofs.Bounds.{greatest-member, greatest-reached}
+
+-- ---- a value at one place, and 0 elsewhere
+-- What is above 0 is at that place.
+pub only-there : (i j v : ℕ) → 0 < cond (eqb i j) v 0 → i ≡ j
+only-there i j v = go (eqb i j) refl
+  where
+    go : (b : Bool) → eqb i j ≡ b → 0 < cond b v 0 → i ≡ j
+    go true e z = eqb-true i j e
+    go false e z = absurd (omega arith)
+
+-- At that place it is the value.
+pub value-there : (i j v : ℕ) → i ≡ j → cond (eqb i j) v 0 ≡ v
+value-there i j v e = rw (eq-eqb i j e)
+
+-- It is at most the value.
+pub there-bound : (i j v : ℕ) → cond (eqb i j) v 0 ≤ v
+there-bound i j v = go (eqb i j)
+  where
+    go : (b : Bool) → cond b v 0 ≤ v
+    go true = le-refl v
+    go false = zero-le
+
+-- ---- moves
+-- In the way w, j is the instant beside k.
+unfoldable pub Beside : Way → ℕ → ℕ → Type 0
+Beside ahead k j = j ≡ k + 1
+Beside back k j = j + 1 ≡ k
+
+-- There is at most one such instant.
+pub beside-one : (w : Way) (k i j : ℕ) → Beside w k i → Beside w k j → j ≡ i
+unfolding Beside
+beside-one ahead k i j d e = omega arith
+beside-one back k i j d e = omega arith
+
+-- A move leads there only.
+pub move-beside : (w : Way) (k j : ℕ) → 0 < moveSquare w k j → Beside w k j
+unfolding Beside moveSquare
+move-beside ahead k j = only-there j (k + 1) 2
+move-beside back k j = only-there (j + 1) k 2
+
+-- It leads there with the value 2.
+pub beside-move : (w : Way) (k j : ℕ) → Beside w k j → moveSquare w k j ≡ 2
+unfolding Beside moveSquare
+beside-move ahead k j = value-there j (k + 1) 2
+beside-move back k j = value-there (j + 1) k 2
+
+-- ---- sequences
+-- A value of a sequence comes by way of some instant.
+pub sequence-elim : (L : ℕ) (p q : Square) (k j v : ℕ) → 0 < v → v ≤ sequenceSquare L p q k j →
+    (i : ℕ) × (i < L) × (v ≤ p k i) × (v ≤ q i j)
+unfolding sequenceSquare
+sequence-elim L p q k j v z h = let (i, l, a) = greatest-reached L _ v z h in (i, l, omega arith, omega arith)
+
+-- What both parts are worth by way of i the sequence is worth.
+pub sequence-intro : (L : ℕ) (p q : Square) (k i j v : ℕ) → i < L → v ≤ p k i → v ≤ q i j → v ≤ sequenceSquare L p q k j
+unfolding sequenceSquare
+sequence-intro L p q k i j v l a b = le-trans (le-min a b) (greatest-member L (λ i. min (p k i) (q i j)) i l)
