@@ -6,6 +6,7 @@ use mathlib.Core.Bool.{Bool, true, false, cond}
 use mathlib.Core.Logic.{_⊎_, inl, inr, ⊎-elim, _↔_}
 use mathlib.Core.List.{List, [], _∷_, _++_}
 use native.Mathlib.Nat.{le-refl, eq-or-lt-of-le, le-of-suc-le-suc}
+use native.Mathlib.Numerals.{add-one}
 use native.Mathlib.Omega.{arith}
 use Rattle.meaning.specs.Run.{each}
 use Rattle.meaning.specs.Refusal.{Ground, firstOf}
@@ -80,3 +81,28 @@ module _ (f : ℕ → List Ground) where
   clear-each (suc n) c i l =
       let b = (clear-append (each n f) (f n)) .0 c in
       ⊎-elim (λ (e : i ≡ n). rw e (b .1)) (λ m. clear-each n (b .0) i m) (eq-or-lt-of-le (le-of-suc-le-suc l))
+
+  -- ---- a scan: nothing was found before i
+  pub scan-none : Clear (each 0 f)
+  unfolding each
+  scan-none = tt
+
+  pub scan-more : (i : ℕ) → Clear (each i f) → Clear (f i) → Clear (each (i + 1) f)
+  unfolding each
+  scan-more i c d = rw add-one ((clear-append (each i f) (f i)) .1 (c, d))
+
+  -- What is found at i is the first of all, however far the list goes.
+  pub scan-found : (n i : ℕ) {x : ℕ} → i < n → Clear (each i f) → x ≡ firstOf (f i) → (x ≡ 0 → ⊥)
+      → x ≡ firstOf (each n f)
+  unfolding each
+  scan-found zero i l c e q = absurd (omega arith)
+  scan-found (suc n) i l c e q =
+      ⊎-elim
+      (λ (d : i ≡ n). rw (← d) (e ∙ sym (clear-skip (each i f) (f i) c)))
+      (λ (m : i < n).
+      let g = scan-found n i m c e q in
+      g ∙ sym (found-stop (each n f) (f n) (λ z. q (g ∙ z))))
+      (eq-or-lt-of-le (le-of-suc-le-suc l))
+
+  pub scan-done : (n i : ℕ) → i ≡ n → Clear (each i f) → 0 ≡ firstOf (each n f)
+  scan-done n i e c = rw (← e) (sym (clear-none (each i f) c))
