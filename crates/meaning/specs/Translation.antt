@@ -88,38 +88,38 @@ context s r = contextIn s (count s) r
 abbrev pub arrow : ℕ → ℕ → ℕ → Rule
 arrow place u v = rule place (u ∷ []) (v ∷ [])
 
-abbrev pub same : ℕ → ℕ → ℕ → List Rule
-same place u v = arrow place u v ∷ arrow place v u ∷ []
+abbrev pub sameRules : ℕ → ℕ → ℕ → List Rule
+sameRules place u v = arrow place u v ∷ arrow place v u ∷ []
 
 -- At the end of the trace in a way, a diamond over a move has the value 0 and a box 2.
-unfoldable pub edge : Mode → ℕ → ℕ → Rule
-edge diamond place x = rule place (x ∷ []) []
-edge box place x = rule place [] (x ∷ [])
+unfoldable pub edgeRule : Mode → ℕ → ℕ → Rule
+edgeRule diamond place x = rule place (x ∷ []) []
+edgeRule box place x = rule place [] (x ∷ [])
 
 -- x is the greater of u and v under a diamond, the smaller under a box.
-unfoldable pub joined : Mode → ℕ → ℕ → ℕ → List Rule
-joined diamond x u v = rule 0 (x ∷ []) (u ∷ v ∷ []) ∷ arrow 0 u x ∷ arrow 0 v x ∷ []
-joined box x u v = arrow 0 x u ∷ arrow 0 x v ∷ rule 0 (u ∷ v ∷ []) (x ∷ []) ∷ []
+unfoldable pub joinRules : Mode → ℕ → ℕ → ℕ → List Rule
+joinRules diamond x u v = rule 0 (x ∷ []) (u ∷ v ∷ []) ∷ arrow 0 u x ∷ arrow 0 v x ∷ []
+joinRules box x u v = arrow 0 x u ∷ arrow 0 x v ∷ rule 0 (u ∷ v ∷ []) (x ∷ []) ∷ []
 
-unfoldable pub tested : Mode → ℕ → ℕ → ℕ → List Rule
-tested diamond x a c = arrow 0 x a ∷ arrow 0 x c ∷ rule 0 (a ∷ c ∷ []) (x ∷ []) ∷ []
-tested box x a c =
+unfoldable pub testRules : Mode → ℕ → ℕ → ℕ → List Rule
+testRules diamond x a c = arrow 0 x a ∷ arrow 0 x c ∷ rule 0 (a ∷ c ∷ []) (x ∷ []) ∷ []
+testRules box x a c =
     rule 0 (x ∷ a ∷ []) (c ∷ []) ∷ arrow 0 (negated a) x ∷ arrow 0 c x ∷ rule 0 [] (x ∷ a ∷ negated c ∷ []) ∷ []
 
-unfoldable pub moved : Way → Mode → ℕ → ℕ → List Rule
-moved ahead m x c = same 2 (previously x) c ++ (edge m 3 x ∷ [])
-moved back m x c = same 2 x (previously c) ++ (edge m 1 x ∷ [])
+unfoldable pub moveRules : Way → Mode → ℕ → ℕ → List Rule
+moveRules ahead m x c = sameRules 2 (previously x) c ++ (edgeRule m 3 x ∷ [])
+moveRules back m x c = sameRules 2 x (previously c) ++ (edgeRule m 1 x ∷ [])
 
 -- By the record's kind and mode: x is its label, a and b its children's, c its continuation's, i its field a.
 unfoldable pub rulesOf : Kind → Mode → ℕ → ℕ → ℕ → ℕ → ℕ → List Rule
-rulesOf (constant v) m x a b c i = same 0 x (cond v trueSymbol falseSymbol)
-rulesOf atom m x a b c i = same 0 x (atomSymbol i)
-rulesOf (modal _) m x a b c i = same 0 x a
-rulesOf (move w) m x a b c i = moved w m x c
-rulesOf test m x a b c i = tested m x a c
-rulesOf choice m x a b c i = joined m x a b
-rulesOf sequence m x a b c i = same 0 x a
-rulesOf star m x a b c i = joined m x c a
+rulesOf (constant v) m x a b c i = sameRules 0 x (cond v trueSymbol falseSymbol)
+rulesOf atom m x a b c i = sameRules 0 x (atomSymbol i)
+rulesOf (modal _) m x a b c i = sameRules 0 x a
+rulesOf (move w) m x a b c i = moveRules w m x c
+rulesOf test m x a b c i = testRules m x a c
+rulesOf choice m x a b c i = joinRules m x a b
+rulesOf sequence m x a b c i = sameRules 0 x a
+rulesOf star m x a b c i = joinRules m x c a
 rulesOf (shorthand σ) m x a b c i = []
 rulesOf unknown m x a b c i = []
 
