@@ -2,56 +2,25 @@
 -- that fails exactly where a plain fact about the records holds. So no ground applies exactly where all these facts hold.
 use Prim.Native.Nat.{ℕ, _*_, _<_, _≤_}
 use mathlib.Core.Path.{_≡_, refl}
-use mathlib.Core.Bool.{Bool, true, false, not, _||_, true≢false}
-use mathlib.Core.Logic.{_≢_, _↔_}
+use mathlib.Core.Bool.{Bool, true, false}
+use mathlib.Core.Logic.{_↔_}
 use mathlib.Core.List.{List, [], _∷_}
 use native.Mathlib.Omega.{arith}
 use lib.ListN.{length}
-use lib.Dec.{leb, eqb}
-use borrow.Author.Tests.{leb-false, eqb-true, eqb-false, not-false, lt-leb, eq-eqb, ne-eqb}
 use Rattle.meaning.specs.Run.{each}
 use Rattle.meaning.specs.Record.{recordSize, mostRecords, count, kindAt, zeroByte, fieldA, fieldB, known}
-use Rattle.meaning.specs.Record.{Sort, formula, path, Use, unused, atomNumber, child, useA, useB}
-use Rattle.meaning.specs.Refusal.{Ground, firstOf, recordGrounds, treeGrounds, checkGrounds, stray, late, beyond, differ, misfit}
+use Rattle.meaning.specs.Record.{Use, unused, atomNumber, child, useA, useB}
+use Rattle.meaning.specs.Refusal.{Ground, firstOf, recordGrounds, treeGrounds, checkGrounds, stray, late, beyond, misfit}
 use Rattle.meaning.specs.Refusal.{ground1, ground2, ground3, ground4, ground5, ground6, ground6-last, ground7, ground8}
 use Rattle.meaning.specs.WellFormed.{Fits, WellFormed}
 use Rattle.meaning.specs.Service.{checkAnswer}
+use Rattle.meaning.proofs.Fails.{tests}
 use Rattle.meaning.proofs.First.{Clear, Numbered, clear-none, none-clear, clear-append, clear-each, each-clear}
 use Rattle.meaning.proofs.First.{numbered-append, numbered-each}
 
--- ---- where a test fails
--- Neither of two.
-or-fails : (a b : Bool) → ((a || b) ≡ false) ↔ ((a ≡ false) × (b ≡ false))
-or-fails true b = (λ e. absurd (true≢false e), λ p. p .0)
-or-fails false b = (λ e. (refl, e), λ p. p .1)
-
--- A negated one fails where the test holds.
-not-fails : (b : Bool) → (not b ≡ false) ↔ (b ≡ true)
-not-fails b = (not-false b, λ e. rw e)
-
--- Tests of numbers.
-eqb-holds : (a b : ℕ) → (eqb a b ≡ true) ↔ (a ≡ b)
-eqb-holds a b = (eqb-true a b, eq-eqb a b)
-
-eqb-fails : (a b : ℕ) → (eqb a b ≡ false) ↔ (a ≢ b)
-eqb-fails a b = (eqb-false a b, ne-eqb a b)
-
-leb-fails : (a b : ℕ) → (leb a b ≡ false) ↔ (b < a)
-leb-fails a b = (leb-false a b, lt-leb a b)
-
--- The test of sorts.
-differ-fails : (σ τ : Sort) → (differ σ τ ≡ false) ↔ (τ ≡ σ)
-unfolding differ
-differ-fails formula formula = (λ e. refl, λ e. refl)
-differ-fails formula path = (λ e. absurd (true≢false e), λ e. cc)
-differ-fails path formula = (λ e. absurd (true≢false e), λ e. cc)
-differ-fails path path = (λ e. refl, λ e. refl)
-
-ruleset tests = (or-fails, not-fails, eqb-holds, eqb-fails, leb-fails, differ-fails)
-
 -- ---- where a ground does not apply
 -- 1: the bytes are whole records, at least one and not too many.
-ground1-fails : (s : List ℕ)
+pub ground1-fails : (s : List ℕ)
     → (ground1 s .applies ≡ false) ↔ ((length s ≡ recordSize * count s) × (0 < count s) × (count s ≤ mostRecords))
 unfolding ground1
 ground1-fails s = simp tests (omega arith)

@@ -10,6 +10,7 @@ use native.Mathlib.Omega.{arith}
 use Rattle.meaning.specs.Record.{Way, ahead, back}
 use Rattle.meaning.specs.Formula.{Form, Path, constant, atom, modal, move, test, choice, sequence, star, mayStand, sameWay, goes}
 use Rattle.meaning.specs.Value.{Square, moveSquare, testSquare, choiceSquare, sequenceSquare, passes, valueOf, squareOf}
+use Rattle.meaning.proofs.Fails.{or-fails}
 use Rattle.meaning.proofs.Bounds.{le-or-lt, greatest-within}
 use Rattle.meaning.proofs.Reach.{only-there, there-bound, Beside, move-beside, sequence-elim}
 use Rattle.meaning.proofs.Star.{star-attained}
@@ -107,11 +108,6 @@ pace-and true false = le-refl 1
 pace-and false true = le-refl 1
 pace-and false false = omega arith
 
--- Neither part goes the way that the whole doesn't.
-or-false : (a b : Bool) → (a || b) ≡ false → (a ≡ false) × (b ≡ false)
-or-false true b e = absurd (true≢false e)
-or-false false b e = (refl, e)
-
 module _ (L : ℕ) (cell : ℕ → ℕ → ℕ) (w : Way) where
   -- Passes lead along the way that one leads.
   passes-along : (p : Square) → ((k j : ℕ) → 0 < p k j → Along w k j) → (n k j : ℕ) → 0 < passes L p n k j → Along w k j
@@ -128,14 +124,14 @@ module _ (L : ℕ) (cell : ℕ → ℕ → ℕ) (w : Way) where
   path-leads (move v) g k j z = beside-leads w v k j g (move-beside v k j z)
   path-leads (test f) g k j z = leads-same w k j (only-there j k (valueOf L cell f k) z)
   path-leads (choice p q) g k j z =
-      let (gp, gq) = or-false _ _ g in
+      let (gp, gq) = or-fails _ _ .0 g in
       let (a, b) = pace-or (mayStand p) (mayStand q) in
       elim (le-or-lt 1 (squareOf L cell p k j)) [
         | inl y ↦ leads-less w _ _ k j a (path-leads p gp k j y)
         | inr n ↦ leads-less w _ _ k j b (path-leads q gq k j (omega arith))
       ]
   path-leads (sequence p q) g k j z =
-      let (gp, gq) = or-false _ _ g in
+      let (gp, gq) = or-fails _ _ .0 g in
       let (i, _, a, b) = sequence-elim L (squareOf L cell p) (squareOf L cell q) k j 1 (le-refl 1) z in
       leads-add w _ _ _ k i j (pace-and (mayStand p) (mayStand q)) (path-leads p gp k i a) (path-leads q gq i j b)
   path-leads (star p) g k j z =

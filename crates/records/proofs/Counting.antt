@@ -16,15 +16,9 @@ use Rattle.meaning.specs.Refusal.{firstOf, ground7}
 use Rattle.meaning.proofs.First.{Clear}
 use Rattle.records.specs.Code.{useOf, useCode, sortCode}
 use Rattle.records.specs.Places.{Added, Places}
+use Rattle.records.proofs.Fields.{use-again}
 
 -- ---- what a field adds
-of-code : (field : Use) → useOf (useCode field) ≡ field
-unfolding useOf useCode sortCode
-of-code unused = refl
-of-code atomNumber = refl
-of-code (child formula) = refl
-of-code (child path) = refl
-
 -- The numbers 0 and 1 say that there is no child.
 pub names-none : (u v i : ℕ) → u < 2 → names (useOf u) v i ≡ 0
 unfolding names useOf
@@ -83,7 +77,7 @@ none = record { size = refl; counted = λ i h. getD-replicate 255 i 0 0 h }
 added : (field : Use) {u v w : ℕ} {old new : List ℕ} → u ≡ useCode field → v ≡ w → Added u v old new
     → (i : ℕ) → i < mostRecords → getD old i 0 < 3
     → getD new i 0 ≡ min 2 (getD old i 0 + names field w i)
-added field e f x i h l = x .counted i h l ∙ rw (e, f, of-code field)
+added field e f x i h l = x .counted i h l ∙ rw (e, f, use-again field)
 
 -- The fields of record q as the code reads them.
 pub more : {s old mid new : List ℕ} {q kind ua a ub b : ℕ} → kind ≡ kindByte s q

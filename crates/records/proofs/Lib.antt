@@ -1,2 +1,6 @@
-pub mod Counting
+-- What the proofs of several functions cite.
+pub mod Kind
+pub mod Fields
+pub mod Order
 pub mod Scan
+pub mod Counting

@@ -15,15 +15,11 @@ use Rattle.meaning.specs.Record.{Sort, formula, path, sortOf, kindOf, kindByte,
 use Rattle.meaning.specs.Refusal.{firstOf, differ, ground1, ground2, ground3, ground4, ground5, ground6, ground6-last, ground7, recordGrounds, treeGrounds}
 use Rattle.meaning.proofs.First.{Numbered, none-clear, clear-skip, found-stop, numbered-each}
 use Rattle.records.specs.Code.{sortCode}
+use Rattle.records.proofs.Fields.{differ-code}
 
 pub record-numbered : (full : Bool) (s : List ℕ) (A r : ℕ) → Numbered (recordGrounds full s A r)
 unfolding recordGrounds ground2 ground3 ground4 ground5 ground6
 record-numbered full s A r = (lit< tt, (lit< tt, (lit< tt, (lit< tt, (lit< tt, tt)))))
-
-differ-formula : (sort : Sort) → differ formula sort ≡ not (eqb (sortCode sort) 2)
-unfolding differ sortCode
-differ-formula formula = refl
-differ-formula path = refl
 
 -- ---- all records
 module _ (full : Bool) (s : List ℕ) (A : ℕ) where
@@ -45,22 +41,8 @@ module _ (full : Bool) (s : List ℕ) (A : ℕ) where
       let records = each (count s) (recordGrounds full s A) in
       let clear = none-clear records (numbered-each _ (count s) (record-numbered full s A)) none in
       let told : t ≡ sortCode (sortOf (kindAt s (pred (count s)))) = sort ∙ rw (at-last, size, sub-one) in
+      let two : sortCode formula ≡ 2 = unfold sortCode in refl in
       record {
-        last = λ q. rw (clear-skip records _ clear, differ-formula, ← told, ne-eqb t 2 q);
-        places = λ e. rw (clear-skip records _ clear, differ-formula, ← told, eq-eqb t 2 e);
+        last = λ q. rw (clear-skip records _ clear, differ-code, ← told, two, ne-eqb t 2 q);
+        places = λ e. rw (clear-skip records _ clear, differ-code, ← told, two, eq-eqb t 2 e);
       }
-
--- ---- the length
-neither : (a b : Bool) → (a || b) ≡ false → (a ≡ false) × (b ≡ false)
-neither true b e = absurd (true≢false e)
-neither false b e = (refl, e)
-
-pub right-length : (s : List ℕ) → ground1 s .applies ≡ false → (0 < count s) × (count s ≤ mostRecords)
-unfolding ground1
-right-length s e =
-    let empty = eqb (length s) 0 in
-    let whole = eqb (length s % recordSize) 0 in
-    let few = neither (empty || not whole) (ltb (recordSize * mostRecords) (length s)) e in
-    let both = neither empty (not whole) (few .0) in
-    let divides : whole ≡ true = not-false whole (both .1) in
-    omega (arith, eqb-true, eqb-false, ltb-false)

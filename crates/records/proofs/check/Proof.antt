@@ -3,7 +3,7 @@ use mathlib.Core.Path.{_≡_, sym, _∙_}
 use mathlib.Core.Bool.{false}
 use Rattle.meaning.specs.Refusal.{firstOf, ground1, ground8, checkGrounds}
 use Rattle.meaning.specs.Service.{checkAnswer}
-use Rattle.records.proofs.Scan.{right-length}
+use Rattle.meaning.proofs.Accepted.{ground1-fails}
 use borrow.Author.Needs.{needs}
 use Rattle.records.proofs.check.Statement.{statement}
 use Rattle.records.proofs.check.Tie as tie
@@ -27,7 +27,7 @@ unfolding checkAnswer checkGrounds firstOf ground8
 returns-2 c = rw (right (c .before .before), sym (c .before .too-many .ensures) ∙ c .if2 .taken)
 
 tree-refusal-requires : tie.Need-tree-refusal-requires
-tree-refusal-requires c κs = right-length _ (right (c .before .before))
+tree-refusal-requires c κs = let (_, some, few) = ground1-fails _ .0 (right (c .before .before)) in (some, few)
 
 returns-3 : tie.Need-returns-3
 unfolding checkAnswer checkGrounds firstOf

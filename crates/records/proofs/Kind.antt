@@ -1,0 +1,39 @@
+-- What holds of the kind with a given number. A function of kinds, taken at the listed ones in turn, is a list that
+-- antt computes, so a rule for a stretch of numbers is one equation between lists: the function's values there are the
+-- code's table, or one value again and again. Behind the list the function has its value at `unknown`.
+use Prim.Native.Nat.{ℕ, zero, suc, _+_, _-_, _<_, _≤_}
+use mathlib.Core.Path.{_≡_, refl, sym, _∙_}
+use mathlib.Core.List.{List, map}
+use native.Mathlib.Omega.{arith}
+use lib.ListN.{getD, take, drop, replicate, getD-replicate, List·getD-map}
+use lib.Seq.{getD-take, getD-drop}
+use Rattle.meaning.specs.Record.{Kind, unknown, kinds, kindOf}
+
+again : {B : Type 0} (n i : ℕ) (b : B) → getD (replicate n b) i b ≡ b
+again zero i b = refl
+again (suc n) zero b = refl
+again (suc n) (suc i) b = again n i b
+
+module _ {B : Type 0} (f : Kind → B) where
+  -- A table of the function's values.
+  pub by-table : (table : List B) → map f kinds ≡ table → (k : ℕ) → getD table k (f unknown) ≡ f (kindOf k)
+  unfolding kindOf
+  by-table table e k = rw (← e) (List·getD-map f kinds k unknown)
+
+  from-on : (start k : ℕ) → start ≤ k → getD (drop start (map f kinds)) (k - start) (f unknown) ≡ f (kindOf k)
+  from-on start k h =
+      let e : start + (k - start) ≡ k = omega arith in
+      rw (getD-drop, e) (by-table (map f kinds) refl k)
+
+  -- One value at so many kinds from a number on.
+  pub stretch : (b : B) (start size : ℕ) → take size (drop start (map f kinds)) ≡ replicate size b
+      → (k : ℕ) → start ≤ k → k < start + size → b ≡ f (kindOf k)
+  stretch b start size e k h l =
+      let i : k - start < size = omega arith in
+      sym (getD-replicate size (k - start) b (f unknown) i)
+      ∙ rw (← e) (getD-take size (drop start (map f kinds)) (k - start) (f unknown) i ∙ from-on start k h)
+
+  -- The value at `unknown`, at all kinds from a number on.
+  pub onward : (start size : ℕ) → drop start (map f kinds) ≡ replicate size (f unknown)
+      → (k : ℕ) → start ≤ k → f unknown ≡ f (kindOf k)
+  onward start size e k h = sym (again size (k - start) (f unknown)) ∙ rw (← e) (from-on start k h)
