@@ -1,10 +1,11 @@
 -- The greatest of f 0 .. f (n - 1) is at least each of them, and is one of them if there is any; the least is at most
 -- each, and no value that is at most each is above it. By induction on n: a number below suc n is n, or is below n.
-use Prim.Native.Nat.{ℕ, zero, suc, _≤_, _<_, zero-le}
-use mathlib.Core.Path.{_≡_, subst⁻¹}
+use Prim.Native.Nat.{ℕ, zero, suc, _+_, _≤_, _<_, zero-le, min, max}
+use mathlib.Core.Path.{_≡_, refl, subst⁻¹}
 use mathlib.Core.Logic.{_⊎_, inl, inr}
 use native.Mathlib.Nat.{le-refl, le-antisymm, eq-or-lt-of-le, le-of-suc-le-suc}
 use native.Mathlib.Decide.{decLe}
+use native.Mathlib.Numerals.{add-one}
 use native.Mathlib.Omega.{arith}
 use Rattle.meaning.specs.Three.{greatest, least}
 
@@ -77,3 +78,24 @@ pub least-bound : (n : ℕ) (f : ℕ → ℕ) → least n f ≤ 2
 unfolding least
 least-bound zero f = le-refl 2
 least-bound (suc n) f = omega (arith, least-bound n f)
+
+-- ---- member after member
+-- One more member, as a loop counts.
+pub greatest-more : (n : ℕ) (f : ℕ → ℕ) → greatest (n + 1) f ≡ max (greatest n f) (f n)
+unfolding greatest
+greatest-more n f = rw add-one
+
+pub least-more : (n : ℕ) (f : ℕ → ℕ) → least (n + 1) f ≡ min (least n f) (f n)
+unfolding least
+least-more n f = rw add-one
+
+-- Two rules that agree below n.
+pub greatest-same : (n : ℕ) (f g : ℕ → ℕ) → ((j : ℕ) → j < n → f j ≡ g j) → greatest n f ≡ greatest n g
+unfolding greatest
+greatest-same zero f g h = refl
+greatest-same (suc n) f g h = rw (greatest-same n f g (λ j l. h j (omega arith)), h n (le-refl _))
+
+pub least-same : (n : ℕ) (f g : ℕ → ℕ) → ((j : ℕ) → j < n → f j ≡ g j) → least n f ≡ least n g
+unfolding least
+least-same zero f g h = refl
+least-same (suc n) f g h = rw (least-same n f g (λ j l. h j (omega arith)), h n (le-refl _))

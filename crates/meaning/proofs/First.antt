@@ -63,6 +63,16 @@ pub numbered-append : (gs hs : List Ground) → Numbered gs → Numbered hs → 
 numbered-append [] hs n m = m
 numbered-append (g ∷ gs) hs n m = (n .0, numbered-append gs hs (n .1) m)
 
+-- One ground: it gives its number, or the rest decides; t is the test as the code made it.
+module _ {x : ℕ} {t : Bool} (g : Ground) (gs : List Ground) (first : x ≡ firstOf (g ∷ gs)) (test : t ≡ g .applies) where
+  pub stop : t ≡ true → g .number ≡ x
+  unfolding firstOf
+  stop e = sym (first ∙ rw (sym test ∙ e))
+
+  pub pass : t ≡ false → x ≡ firstOf gs
+  unfolding firstOf
+  pass e = first ∙ rw (sym test ∙ e)
+
 -- ---- the grounds of each record, or of each rule or cell, in turn
 module _ (f : ℕ → List Ground) where
   pub numbered-each : (n : ℕ) → ((i : ℕ) → Numbered (f i)) → Numbered (each n f)

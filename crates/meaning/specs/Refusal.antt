@@ -178,11 +178,11 @@ expandGrounds s A room = ground1 s ∷ ground8 A ∷ treeGrounds true s A ++ (gr
 
 unfoldable pub valueGrounds : List ℕ → ℕ → ℕ → List ℕ → ℕ → List Ground
 valueGrounds s A L cells room =
-    ground1 s ∷ ground8-cells mostAtoms A L cells ∷ treeGrounds false s A ++ grounds9 cells ++ (ground10 (count s * L) room ∷ [])
+    ground1 s ∷ ground8-cells mostAtoms A L cells ∷ treeGrounds false s A ++ (grounds9 cells ++ (ground10 (count s * L) room ∷ []))
 
 unfoldable pub translateGrounds : List ℕ → ℕ → ℕ → List Ground
 translateGrounds s A room =
-    ground1 s ∷ ground8 A ∷ treeGrounds false s A ++ starGrounds s ++ (ground10 (ruleSize * length (translation s A)) room ∷ [])
+    ground1 s ∷ ground8 A ∷ treeGrounds false s A ++ (starGrounds s ++ (ground10 (ruleSize * length (translation s A)) room ∷ []))
 
 unfoldable pub judgeGrounds : List ℕ → ℕ → ℕ → List ℕ → List Ground
 judgeGrounds ws W L cells =

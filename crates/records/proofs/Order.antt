@@ -38,12 +38,3 @@ pub as-read : (s : List ℕ) (A r k ua ub a b : ℕ)
     → fieldTests s A r (useA (kindAt s r)) (useB (kindAt s r)) (fieldA s r) (fieldB s r)
     ≡ fieldTests s A r (useOf ua) (useOf ub) a b
 as-read s A r k ua ub a b ek ea eb fa fb = simp (ea, eb, fa, fb, ek, use-again)
-
-module _ {x : ℕ} {t : Bool} (g : Ground) (gs : List Ground) (first : x ≡ firstOf (g ∷ gs)) (test : t ≡ g .applies) where
-  pub stop : t ≡ true → g .number ≡ x
-  unfolding firstOf
-  stop e = sym (first ∙ rw (sym test ∙ e))
-
-  pub pass : t ≡ false → x ≡ firstOf gs
-  unfolding firstOf
-  pass e = first ∙ rw (sym test ∙ e)

@@ -1,6 +1,6 @@
 // Formula records: reading them from bytes, and checking them.
-mod fault;
-mod layout;
+pub mod fault;
+pub mod layout;
 mod shape;
 
 ghost use mathlib.Core.Path.{_≡_};

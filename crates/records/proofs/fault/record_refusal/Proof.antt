@@ -12,8 +12,9 @@ use borrow.Author.Tests.{ne-eqb}
 use Rattle.meaning.specs.Record.{kindAt, known}
 use Rattle.meaning.specs.Refusal.{Ground, firstOf, recordGrounds}
 use Rattle.records.specs.Code.{useOf}
+use Rattle.meaning.proofs.First.{stop, pass}
 use Rattle.records.proofs.Fields.{may-look}
-use Rattle.records.proofs.Order.{fieldTests, recordTests, one-by-one, as-read, stop, pass}
+use Rattle.records.proofs.Order.{fieldTests, recordTests, one-by-one, as-read}
 use Rattle.records.proofs.fault.record_refusal.Statement.{statement}
 use Rattle.records.proofs.fault.record_refusal.Tie as tie
 

@@ -1,0 +1,38 @@
+// A trace's sizes and cells: refusals 8 and 9 of the services that take one.
+ghost use mathlib.Core.Path.{_≡_};
+ghost use Prim.Native.Nat.{_≤_};
+ghost use Rattle.meaning.specs.Refusal.{firstOf, ground8-cells, grounds9, mostColumns};
+
+// No trace has more instants.
+pub const MOST_INSTANTS: u64 = 32;
+
+// 8: rows of over `most` cells, no instants or over 32, or another number of cells than the rows have.
+pub fn wrong_size(most: u64, width: u64, instants: u64, cells: &[u8]) -> bool
+    requires { ⌜ most ≤ mostColumns ⌝ }
+    ensures { λ b. ⌜ b ≡ ground8-cells most width instants (now (cells .entry)) .applies ⌝ }
+{
+    if most < width {
+        return true;
+    }
+    if instants == 0 {
+        return true;
+    }
+    if MOST_INSTANTS < instants {
+        return true;
+    }
+    cells.len() as u64 != width * instants
+}
+
+// 9: a cell over 2.
+pub fn cells_refusal(cells: &[u8]) -> u8
+    ensures { λ x. ⌜ x ≡ firstOf (grounds9 (now (cells .entry))) ⌝ }
+{
+    let mut i: usize = 0;
+    while i < cells.len() {
+        if 2 < cells[i] {
+            return 9;
+        }
+        i += 1;
+    }
+    0
+}

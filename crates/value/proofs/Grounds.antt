@@ -1,0 +1,106 @@
+-- The grounds of valuing. Behind a length that is right and sizes that fit stand the grounds of the records, the cells and the room; and
+-- where no ground applies, the records are a tree, the cells a trace, and the table has room.
+use Prim.Native.Nat.{ℕ, _*_, _<_, _≤_}
+use mathlib.Core.Path.{_≡_, refl, sym, ap, _∙_}
+use mathlib.Core.Bool.{Bool, true, false}
+use mathlib.Core.List.{List, [], _∷_, _++_}
+use mathlib.Core.Logic.{⊎-elim}
+use native.Mathlib.Omega.{arith}
+use lib.ListN.{length, getD, List·getD-eq-default}
+use borrow.Author.Tests.{lt-ltb, le-ltb, ltb-false}
+use Rattle.meaning.specs.Record.{count}
+use Rattle.meaning.specs.Refusal.{Ground, firstOf, ground1, ground8, ground8-cells, grounds9, ground10, treeGrounds, valueGrounds, mostAtoms}
+use Rattle.meaning.proofs.Bounds.{le-or-lt}
+use Rattle.meaning.proofs.Fails.{tests}
+use Rattle.meaning.proofs.First.{Clear, Numbered, none-clear, clear-append, clear-each, clear-skip, found-stop, numbered-append, numbered-each, stop, pass}
+use Rattle.meaning.proofs.Accepted.{clear-well-formed, tree-numbered}
+use Rattle.value.specs.Valuing.{Legal}
+
+cells-numbered : (cells : List ℕ) → Numbered (grounds9 cells)
+unfolding grounds9
+cells-numbered cells = numbered-each _ (length cells) (λ i. omega arith)
+
+-- No cell is over 2, also where there is none.
+cells-low : (cells : List ℕ) → Clear (grounds9 cells) → (i : ℕ) → getD cells i 0 ≤ 2
+unfolding grounds9
+cells-low cells c i =
+    ⊎-elim
+    (λ (h : length cells ≤ i). rw (List·getD-eq-default cells 0 h) (omega arith))
+    (λ (h : i < length cells). let e = simp tests at (clear-each _ (length cells) c i h .0) in omega arith)
+    (le-or-lt (length cells) i)
+
+-- Sizes that fit.
+pub size-fits : (A L : ℕ) (cells : List ℕ) → ground8-cells mostAtoms A L cells .applies ≡ false
+    → (A ≤ 32) × (0 < L) × (L ≤ 32) × (length cells ≡ A * L)
+unfolding ground8-cells
+size-fits A L cells e = let h = simp tests at e in (omega arith, omega arith, omega arith, h .1)
+
+module _ (s : List ℕ) (A L : ℕ) (cells : List ℕ) (room : ℕ) where
+  abbrev last : List Ground
+  last = ground10 (count s * L) room ∷ []
+
+  abbrev all : ℕ
+  all = firstOf (valueGrounds s A L cells room)
+
+  all-numbered : Numbered (valueGrounds s A L cells room)
+  unfolding valueGrounds ground1 ground8-cells ground10
+  all-numbered =
+      (omega arith, (omega arith, numbered-append (treeGrounds false s A) (grounds9 cells ++ last) (tree-numbered false s A)
+      (numbered-append (grounds9 cells) last (cells-numbered cells) (omega arith, tt))))
+
+  -- What no ground shuts out.
+  pub legal : all ≡ 0 → Legal s A L cells room
+  unfolding valueGrounds ground8 ground10
+  legal e =
+      let (length-right, (size-right, rest)) = none-clear _ all-numbered e in
+      let t = clear-append (treeGrounds false s A) (grounds9 cells ++ last) .0 rest in
+      let c = clear-append (grounds9 cells) last .0 (t .1) in
+      let (few, some, short, size) = size-fits A L cells size-right in
+      record {
+        formed = clear-well-formed false s A .0 (length-right, (le-ltb 32 A few, t .0));
+        some = some;
+        short = short;
+        size = size;
+        low = cells-low cells (c .0);
+        enough = ltb-false room (count s * L) (c .1 .0);
+      }
+
+  -- ---- the first that applies, test by test
+  pub refused-1 : ground1 s .applies ≡ true → 1 ≡ all
+  unfolding valueGrounds ground1
+  refused-1 e = stop (ground1 s) _ refl refl e
+
+  module _ (right : ground1 s .applies ≡ false) where
+    sized : all ≡ firstOf (ground8-cells mostAtoms A L cells ∷ treeGrounds false s A ++ (grounds9 cells ++ last))
+    unfolding valueGrounds
+    sized = pass (ground1 s) _ refl refl right
+
+    pub refused-8 : ground8-cells mostAtoms A L cells .applies ≡ true → 8 ≡ all
+    unfolding ground8-cells
+    refused-8 e = stop (ground8-cells mostAtoms A L cells) _ sized refl e
+
+    module _ (fits : ground8-cells mostAtoms A L cells .applies ≡ false) where
+      treed : all ≡ firstOf (treeGrounds false s A ++ (grounds9 cells ++ last))
+      treed = pass (ground8-cells mostAtoms A L cells) _ sized refl fits
+
+      pub refused-tree : {x : ℕ} → x ≡ firstOf (treeGrounds false s A) → (x ≡ 0 → ⊥) → x ≡ all
+      refused-tree e n = e ∙ sym (treed ∙ found-stop (treeGrounds false s A) _ (λ z. n (e ∙ z)))
+
+      module _ (tree : firstOf (treeGrounds false s A) ≡ 0) where
+        celled : all ≡ firstOf (grounds9 cells ++ last)
+        celled = treed ∙ clear-skip (treeGrounds false s A) _ (none-clear _ (tree-numbered false s A) tree)
+
+        pub refused-cells : {y : ℕ} → y ≡ firstOf (grounds9 cells) → (y ≡ 0 → ⊥) → y ≡ all
+        refused-cells e n = e ∙ sym (celled ∙ found-stop (grounds9 cells) _ (λ z. n (e ∙ z)))
+
+        module _ (low : firstOf (grounds9 cells) ≡ 0) where
+          roomed : all ≡ firstOf last
+          roomed = celled ∙ clear-skip (grounds9 cells) _ (none-clear _ (cells-numbered cells) low)
+
+          pub refused-room : room < count s * L → 10 ≡ all
+          unfolding ground10 firstOf
+          refused-room h = sym (roomed ∙ rw (lt-ltb room (count s * L) h))
+
+          pub not-refused : count s * L ≤ room → 0 ≡ all
+          unfolding ground10 firstOf
+          not-refused h = sym (roomed ∙ rw (le-ltb room (count s * L) h))

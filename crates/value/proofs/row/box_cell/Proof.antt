@@ -1,0 +1,77 @@
+-- `row::box_cell` meets its contract: `least` is the least of the first j values.
+use Prim.Native.Nat.{_-_, _≤_}
+use mathlib.Core.Path.{_≡_, refl, _∙_}
+use native.Mathlib.Omega.{arith}
+use borrow.Author.Needs.{needs}
+use Rattle.meaning.specs.Three.{least}
+use Rattle.meaning.specs.Value.{boxRow}
+use Rattle.meaning.proofs.Bounds.{least-more}
+use Rattle.value.specs.Cells.{at, rowAt}
+use Rattle.value.proofs.row.box_cell.Statement.{statement}
+use Rattle.value.proofs.row.box_cell.Tie as tie
+
+abbrev Inv-loop : tie.InvT-loop
+Inv-loop s table from l k least₀ j₀ least j = (j ≤ l) × (least ≡ boxRow j (at s) (rowAt table from) k)
+
+abbrev μ-loop : tie.MeasureT-loop
+μ-loop s table from l k least₀ j₀ least j = l - j
+
+loop-holds : tie.Need-loop-holds Inv-loop μ-loop
+unfolding boxRow least
+loop-holds c = (search needs, refl)
+
+mul-imp : tie.Need-mul-imp Inv-loop μ-loop
+mul-imp c = search needs
+
+add-imp : tie.Need-add-imp Inv-loop μ-loop
+add-imp c = search needs
+
+element-copy-out-imp : tie.Need-element-copy-out-imp Inv-loop μ-loop
+element-copy-out-imp c = search needs
+
+add-imp-2 : tie.Need-add-imp-2 Inv-loop μ-loop
+add-imp-2 c = search needs
+
+shared-slice-read-imp : tie.Need-shared-slice-read-imp Inv-loop μ-loop
+shared-slice-read-imp c = search needs
+
+imp-requires : tie.Need-imp-requires Inv-loop μ-loop
+imp-requires c κs = search needs
+
+least-requires : tie.Need-least-requires Inv-loop μ-loop
+least-requires c κs = search needs
+
+add-j : tie.Need-add-j Inv-loop μ-loop
+add-j c = search needs
+
+loop-less : tie.Need-loop-less Inv-loop μ-loop
+loop-less c = search needs
+
+loop-again : tie.Need-loop-again Inv-loop μ-loop
+unfolding boxRow
+loop-again c =
+    (omega arith, c .least .ensures ∙ rw (least-more (c .before .before .before .before .before .loop .j)) (cc))
+
+returns : tie.Need-returns Inv-loop μ-loop
+returns c =
+    let all : c .before .loop .j ≡ c .before .before .before .args .l = omega arith in
+    rw (← all) (c .before .loop .inv .1)
+
+pub box-cell-spec : {M : Type 1} → statement M
+box-cell-spec =
+    tie.close
+    (tie.spec
+    Inv-loop
+    μ-loop
+    loop-holds
+    mul-imp
+    add-imp
+    element-copy-out-imp
+    add-imp-2
+    shared-slice-read-imp
+    imp-requires
+    least-requires
+    add-j
+    loop-less
+    loop-again
+    returns)

@@ -1,0 +1,16 @@
+-- `row::row_start` meets its contract, which is its product; at most 255 * 32, it fits.
+use native.Mathlib.Nat.{mul-le-mul}
+use native.Mathlib.Omega.{arith}
+use borrow.Author.Needs.{needs}
+use Rattle.value.proofs.row.row_start.Statement.{statement}
+use Rattle.value.proofs.row.row_start.Tie as tie
+
+mul-result : tie.Need-mul-result
+mul-result c =
+    omega (arith, mul-le-mul {n₁ = c .args .r} {m₁ = c .args .l} {n₂ = 255} {m₂ = 32} (omega arith) (omega arith))
+
+returns : tie.Need-returns
+returns c = search needs
+
+pub row-start-spec : {M : Type 1} → statement M
+row-start-spec = tie.close (tie.spec mul-result returns)

@@ -1,0 +1,58 @@
+-- `put_row` meets its contract: each turn writes one more value of the row.
+use Prim.Native.Nat.{_-_}
+use mathlib.Core.Path.{refl}
+use lib.ListN.{getD}
+use Rattle.value.proofs.Rowing.{Rowing, rowing-none, rowing-more, rowing-done}
+use native.Mathlib.Omega.{arith}
+use borrow.Author.Needs.{needs}
+use Rattle.value.proofs.square.put_row.Statement.{statement}
+use Rattle.value.proofs.square.put_row.Tie as tie
+
+abbrev Inv-loop : tie.InvT-loop
+Inv-loop s₀ k row j₀ s j = Rowing k (λ i. getD row i 0) s₀ s j
+
+abbrev μ-loop : tie.MeasureT-loop
+μ-loop s₀ k row j₀ s j = 32 - j
+
+loop-holds : tie.Need-loop-holds Inv-loop μ-loop
+loop-holds c = rowing-none (c .pre .1)
+
+element-copy-out-s : tie.Need-element-copy-out-s Inv-loop μ-loop
+element-copy-out-s c = search needs
+
+mul-s : tie.Need-mul-s Inv-loop μ-loop
+mul-s c = search needs
+
+add-s : tie.Need-add-s Inv-loop μ-loop
+add-s c = search needs
+
+element-write-s : tie.Need-element-write-s Inv-loop μ-loop
+element-write-s c = search needs
+
+add-j : tie.Need-add-j Inv-loop μ-loop
+add-j c = search needs
+
+loop-less : tie.Need-loop-less Inv-loop μ-loop
+loop-less c = search needs
+
+loop-again : tie.Need-loop-again Inv-loop μ-loop
+loop-again c = rowing-more (c .before .before .before .pre .0) (c .before .before .loop .inv) (omega arith) refl
+
+returns : tie.Need-returns Inv-loop μ-loop
+returns c = rowing-done (c .before .loop .inv) (omega arith)
+
+pub put-row-spec : {M : Type 1} → statement M
+put-row-spec =
+    tie.close
+    (tie.spec
+    Inv-loop
+    μ-loop
+    loop-holds
+    element-copy-out-s
+    mul-s
+    add-s
+    element-write-s
+    add-j
+    loop-less
+    loop-again
+    returns)

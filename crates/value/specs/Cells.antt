@@ -1,0 +1,54 @@
+-- Squares and rows as bytes: what the code's arrays hold.
+--   at s k j                 the value from k to j in the square s, whose rows are 32 bytes long
+--   rowAt t start k          the value at k in the row of the table t that starts at `start`
+--   Holds L s f              over L instants the square s has the value f k j from k to j
+--   Put L start f old new    `new` is `old` with the values f k in the row from `start` on
+--   Raised f u old new       a row of 32 values, each the greater of what it was and the smaller of f j and u
+--   Rowed k f old new        `new` is the square `old` with the values f j in row k
+--   wayOf, modeOf, joinOf    what the number of a kind says: a move's way, a modality's mode, a choice or a sequence
+--   nextCell                 how far behind k * 33 the value of a move of the kind stands
+use Prim.Native.Nat.{ℕ, _+_, _*_, _<_, _≤_, min, max}
+use mathlib.Core.Path.{_≡_}
+use mathlib.Core.Bool.{cond}
+use mathlib.Core.List.{List}
+use lib.ListN.{length, getD}
+use lib.Dec.{eqb}
+use Rattle.meaning.specs.Record.{Way, ahead, back, Mode, diamond, box}
+use Rattle.meaning.specs.Value.{Square, choiceSquare, sequenceSquare}
+
+abbrev pub at : List ℕ → ℕ → ℕ → ℕ
+at s k j = getD s (k * 32 + j) 0
+
+abbrev pub rowAt : List ℕ → ℕ → ℕ → ℕ
+rowAt t start k = getD t (start + k) 0
+
+pub record Holds (L : ℕ) (s : List ℕ) (f : ℕ → ℕ → ℕ) : Type 0 where
+  pub size : length s ≡ 1024
+  pub cells : (k j : ℕ) → k < L → j < L → at s k j ≡ f k j
+
+pub record Put (L start : ℕ) (f : ℕ → ℕ) (old new : List ℕ) : Type 0 where
+  pub size : length new ≡ length old
+  pub before : (i : ℕ) → i < start → getD new i 0 ≡ getD old i 0
+  pub here : (k : ℕ) → k < L → rowAt new start k ≡ f k
+  pub after : (i : ℕ) → start + L ≤ i → getD new i 0 ≡ getD old i 0
+
+pub record Raised (f : ℕ → ℕ) (u : ℕ) (old new : List ℕ) : Type 0 where
+  pub size : length new ≡ 32
+  pub cells : (j : ℕ) → j < 32 → getD new j 0 ≡ max (getD old j 0) (min (f j) u)
+
+pub record Rowed (k : ℕ) (f : ℕ → ℕ) (old new : List ℕ) : Type 0 where
+  pub size : length new ≡ 1024
+  pub row : (j : ℕ) → j < 32 → at new k j ≡ f j
+  pub others : (q j : ℕ) → (q ≡ k → ⊥) → j < 32 → at new q j ≡ at old q j
+
+unfoldable pub wayOf : ℕ → Way
+wayOf kind = cond (eqb kind 5) ahead back
+
+unfoldable pub modeOf : ℕ → Mode
+modeOf kind = cond (eqb kind 3) diamond box
+
+unfoldable pub joinOf : ℕ → ℕ → Square → Square → Square
+joinOf kind L p q = cond (eqb kind 8) (choiceSquare p q) (sequenceSquare L p q)
+
+unfoldable pub nextCell : ℕ → ℕ
+nextCell kind = cond (eqb kind 5) 1 32

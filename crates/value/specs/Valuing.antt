@@ -1,0 +1,53 @@
+-- What valuing a record asks, and what it does to the table, whose row r starts at r * L.
+--   Under s r q                    the record q is r or stands in the tree of r
+--   Right s A L cells t q          the table t has the values of formula q in its row
+--   Legal s A L cells room         what the refusals leave: a formula, a trace, and room for the table
+--   Asked s A L cells r t          what is asked where record r is valued into the table t
+--   Steady s A L cells r old new   right rows stay right, and so do the rows of paths and all that stands behind row r
+--   Valued s A L cells r old new   besides, the rows of the formulas under r are right
+--   Squared s A L cells p bytes    the bytes are the square of path p
+use Prim.Native.Nat.{ℕ, _+_, _*_, _<_, _≤_}
+use mathlib.Core.Path.{_≡_}
+use mathlib.Core.Bool.{false}
+use mathlib.Core.List.{List}
+use lib.ListN.{length, getD}
+use Rattle.meaning.specs.Run.{cellOf}
+use Rattle.meaning.specs.Record.{count, kindAt, fieldA, fieldB, Sort, formula, path, sortOf, child, useA, useB}
+use Rattle.meaning.specs.Tree.{formAt, pathAt}
+use Rattle.meaning.specs.Value.{valueOf, squareOf}
+use Rattle.meaning.specs.WellFormed.{WellFormed}
+use Rattle.value.specs.Cells.{rowAt, Holds}
+
+pub data Under (s : List ℕ) : ℕ → ℕ → Type 0 where
+  itself : {r : ℕ} → Under s r r
+  first : {r q : ℕ} (σ : Sort) → useA (kindAt s r) ≡ child σ → Under s (fieldA s r) q → Under s r q
+  second : {r q : ℕ} (σ : Sort) → useB (kindAt s r) ≡ child σ → Under s (fieldB s r) q → Under s r q
+
+module _ (s : List ℕ) (A L : ℕ) (cells : List ℕ) where
+  pub record Right (t : List ℕ) (q : ℕ) : Type 0 where
+    pub values : (k : ℕ) → k < L → rowAt t (q * L) k ≡ valueOf L (cellOf A cells) (formAt s q) k
+
+  pub record Legal (room : ℕ) : Type 0 where
+    pub formed : WellFormed false s A
+    pub some : 0 < L
+    pub short : L ≤ 32
+    pub size : length cells ≡ A * L
+    pub low : (i : ℕ) → getD cells i 0 ≤ 2
+    pub enough : count s * L ≤ room
+
+  pub record Asked (r : ℕ) (t : List ℕ) : Type 0 where
+    pub legal : Legal (length t)
+    pub index : r < count s
+
+  pub record Steady (r : ℕ) (old new : List ℕ) : Type 0 where
+    pub size : length new ≡ length old
+    pub right : (q : ℕ) → Right old q → Right new q
+    pub paths : (q k : ℕ) → sortOf (kindAt s q) ≡ path → k < L → rowAt new (q * L) k ≡ rowAt old (q * L) k
+    pub after : (i : ℕ) → r * L + L ≤ i → getD new i 0 ≡ getD old i 0
+
+  pub record Valued (r : ℕ) (old new : List ℕ) : Type 0 where
+    pub steady : Steady r old new
+    pub rows : (q : ℕ) → Under s r q → sortOf (kindAt s q) ≡ formula → Right new q
+
+  abbrev pub Squared : ℕ → List ℕ → Type 0
+  Squared p bytes = Holds L bytes (squareOf L (cellOf A cells) (pathAt s p))

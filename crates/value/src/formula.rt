@@ -1,0 +1,70 @@
+// Valuing a record: a formula's row calls for its path's square, and a test in the path for its formula's row. The record number falls.
+ghost use mathlib.Core.Path.{_≡_};
+ghost use Prim.Native.Nat.{ℕ};
+ghost use Rattle.meaning.specs.Record.{formula, path, sortOf, kindAt};
+ghost use Rattle.value.specs.Valuing.{Asked, Valued, Squared};
+use crate::row;
+use crate::square;
+use crate::star;
+use records::layout;
+
+// Writes the rows of formula r and of the formulas in it.
+pub fn value_formula(
+    records: &[u8],
+    atoms: usize,
+    l: usize,
+    cells: &[u8],
+    r: usize,
+    table: &mut [u8],
+)
+    requires { ⌜ Asked (now records) atoms l (now cells) r (now table) × (sortOf (kindAt (now records) r) ≡ formula) ⌝ }
+    ensures { λ _. ⌜ Valued (now (records .entry)) atoms l (now (cells .entry)) r (now (table .entry)) (now (table .exit)) ⌝ }
+{
+    let kind = layout::kind_at(records, r);
+    let start = row::row_start(r, l);
+    if kind < 2 {
+        row::put_constant(table, start, l, kind * 2);
+        return;
+    }
+    let a = layout::field_a(records, r);
+    if kind == 2 {
+        row::put_atom(table, start, l, cells, atoms, a);
+        return;
+    }
+    let b = layout::field_b(records, r);
+    value_formula(records, atoms, l, cells, b, table);
+    let s = path_square(records, atoms, l, cells, a, table);
+    row::put_modal(kind, &s, table, row::row_start(b, l), start, l);
+}
+
+// The square of path p; writes the rows of the formulas in it.
+pub fn path_square(
+    records: &[u8],
+    atoms: usize,
+    l: usize,
+    cells: &[u8],
+    p: usize,
+    table: &mut [u8],
+) -> [u8; 1024]
+    requires { ⌜ Asked (now records) atoms l (now cells) p (now table) × (sortOf (kindAt (now records) p) ≡ path) ⌝ }
+    ensures { λ s. ⌜ Valued (now (records .entry)) atoms l (now (cells .entry)) p (now (table .entry)) (now (table .exit)) × Squared (now (records .entry)) atoms l (now (cells .entry)) p s ⌝ }
+{
+    let kind = layout::kind_at(records, p);
+    if kind < 7 {
+        return square::move_square(kind, l);
+    }
+    let a = layout::field_a(records, p);
+    if kind == 7 {
+        value_formula(records, atoms, l, cells, a, table);
+        return square::test_square(&table[..], row::row_start(a, l), l);
+    }
+    let mut s = path_square(records, atoms, l, cells, a, table);
+    if kind == 10 {
+        star::close(&mut s, l);
+        return s;
+    }
+    let b = layout::field_b(records, p);
+    let q = path_square(records, atoms, l, cells, b, table);
+    square::join(kind, &mut s, &q, l);
+    s
+}

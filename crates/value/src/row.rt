@@ -1,0 +1,88 @@
+// Rows of the table: the values of one formula at each instant.
+ghost use mathlib.Core.Path.{_≡_};
+ghost use Prim.Native.Nat.{ℕ, _+_, _*_, _<_, _≤_};
+ghost use lib.ListN.{length};
+ghost use Rattle.meaning.specs.Run.{cellOf};
+ghost use Rattle.meaning.specs.Value.{diamondRow, boxRow, modalRow};
+ghost use Rattle.value.specs.Cells.{at, rowAt, Put, modeOf};
+
+// Where row r starts.
+pub fn row_start(r: usize, l: usize) -> usize
+    requires { ⌜ (r ≤ 255) × (l ≤ 32) ⌝ }
+    ensures { λ s. ⌜ s ≡ r * l ⌝ }
+{
+    r * l
+}
+
+pub fn put_constant(table: &mut [u8], start: usize, l: usize, v: u8)
+    requires { ⌜ start + l ≤ length (now table) ⌝ }
+    ensures { λ _. ⌜ Put l start (λ k. v) (now (table .entry)) (now (table .exit)) ⌝ }
+{
+    let mut k: usize = 0;
+    while k < l {
+        table[start + k] = v;
+        k += 1;
+    }
+}
+
+// Atom i of rows of `atoms` cells.
+pub fn put_atom(table: &mut [u8], start: usize, l: usize, cells: &[u8], atoms: usize, i: usize)
+    requires { ⌜ (start + l ≤ length (now table)) × (length (now cells) ≡ atoms * l) × (i < atoms) ⌝ }
+    ensures { λ _. ⌜ Put l start (λ k. cellOf atoms (now (cells .entry)) k i) (now (table .entry)) (now (table .exit)) ⌝ }
+{
+    let mut k: usize = 0;
+    let mut at = i;
+    while k < l {
+        table[start + k] = cells[at];
+        at += atoms;
+        k += 1;
+    }
+}
+
+// The diamond, kind 3, or the box over a path's square of the formula whose row starts at `from`, which ends at or before `start`.
+pub fn put_modal(kind: u8, s: &[u8; 1024], table: &mut [u8], from: usize, start: usize, l: usize)
+    requires { ⌜ (start + l ≤ length (now table)) × (from + l ≤ start) × (l ≤ 32) ⌝ }
+    ensures { λ _. ⌜ Put l start (modalRow (modeOf kind) l (at (now (s .entry))) (rowAt (now (table .entry)) from)) (now (table .entry)) (now (table .exit)) ⌝ }
+{
+    let mut k: usize = 0;
+    while k < l {
+        table[start + k] = modal_cell(kind, s, &table[..], from, l, k);
+        k += 1;
+    }
+}
+
+fn modal_cell(kind: u8, s: &[u8; 1024], table: &[u8], from: usize, l: usize, k: usize) -> u8
+    requires { ⌜ (from + l ≤ length (now table)) × (k < l) × (l ≤ 32) ⌝ }
+    ensures { λ v. ⌜ v ≡ modalRow (modeOf kind) l (at (now (s .entry))) (rowAt (now (table .entry)) from) k ⌝ }
+{
+    if kind == 3 {
+        return diamond_cell(s, table, from, l, k);
+    }
+    box_cell(s, table, from, l, k)
+}
+
+fn diamond_cell(s: &[u8; 1024], table: &[u8], from: usize, l: usize, k: usize) -> u8
+    requires { ⌜ (from + l ≤ length (now table)) × (k < l) × (l ≤ 32) ⌝ }
+    ensures { λ v. ⌜ v ≡ diamondRow l (at (now (s .entry))) (rowAt (now (table .entry)) from) k ⌝ }
+{
+    let mut most: u8 = 0;
+    let mut j: usize = 0;
+    while j < l {
+        most = three::greatest(most, three::least(s[k * 32 + j], table[from + j]));
+        j += 1;
+    }
+    most
+}
+
+fn box_cell(s: &[u8; 1024], table: &[u8], from: usize, l: usize, k: usize) -> u8
+    requires { ⌜ (from + l ≤ length (now table)) × (k < l) × (l ≤ 32) ⌝ }
+    ensures { λ v. ⌜ v ≡ boxRow l (at (now (s .entry))) (rowAt (now (table .entry)) from) k ⌝ }
+{
+    let mut least: u8 = 2;
+    let mut j: usize = 0;
+    while j < l {
+        least = three::least(least, three::imp(s[k * 32 + j], table[from + j]));
+        j += 1;
+    }
+    least
+}
