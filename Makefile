@@ -1,4 +1,4 @@
-.PHONY: demo test
+.PHONY: demo test bench
 
 # A planner in C asks the library about four rules.
 demo:
@@ -8,3 +8,7 @@ demo:
 # The gate.
 test:
 	bash .ci/run
+
+# Speed beside three valuers in C, and the stack that the deepest formulas take.
+bench:
+	bash bench/run

@@ -1,0 +1,306 @@
+/* The workloads: the most that 255 records and 32 instants can ask for, each in another way; rules as they are written in practice; and
+ * random formulas from a fixed seed. */
+#include "workloads.h"
+
+#include <string.h>
+
+struct workload workloads[MOST_WORKLOADS];
+static size_t count;
+
+static uint64_t seed = 13;
+
+/* splitmix64 */
+static size_t below(size_t n)
+{
+    seed += UINT64_C(0x9e3779b97f4a7c15);
+    uint64_t z = seed;
+    z = (z ^ z >> 30) * UINT64_C(0xbf58476d1ce4e5b9);
+    z = (z ^ z >> 27) * UINT64_C(0x94d049bb133111eb);
+    return (size_t)((z ^ z >> 31) % n);
+}
+
+/* The next input of the newest workload, its cells drawn at random: one in seven 0, one in seven 1, the others 2. */
+static struct input *next(size_t atoms, size_t instants)
+{
+    struct workload *w = &workloads[count - 1];
+    if (w->inputs == MOST_INPUTS) {
+        fprintf(stderr, "%s has more than %d inputs\n", w->name, MOST_INPUTS);
+        exit(2);
+    }
+    struct input *in = &w->input[w->inputs++];
+    in->atoms = atoms;
+    in->instants = instants;
+    in->value = -1;
+    for (size_t c = 0; c < atoms * instants; c++)
+        in->cells[c] = (uint8_t[]){0, 1, 2, 2, 2, 2, 2}[below(7)];
+    return in;
+}
+
+static struct input *one(const char *name, size_t atoms, size_t instants)
+{
+    if (count == MOST_WORKLOADS) {
+        fprintf(stderr, "more than %d workloads\n", MOST_WORKLOADS);
+        exit(2);
+    }
+    workloads[count++].name = name;
+    return next(atoms, instants);
+}
+
+/* ---- rules as they are written */
+static void until(void)
+{
+    struct input *in = one("p until q", 2, 32);
+    struct formula *f = &in->formula;
+    size_t way = star(f, go(f, 0));
+    diamond(f, way, atom(f, 1));
+    for (size_t k = 0; k < 32; k++) {
+        in->cells[2 * k] = k == 9 ? 1 : 2;
+        in->cells[2 * k + 1] = k == 31 ? 2 : 0;
+    }
+    in->value = 1;
+}
+
+/* Always, if p then q within eight steps, and r until then. */
+static void respond(void)
+{
+    struct formula *f = &one("always p answered by q", 3, 32)->formula;
+    size_t always = star(f, step(f)), asked = test(f, atom(f, 0));
+    size_t way = go(f, 2);
+    for (int i = 0; i < 7; i++) {
+        size_t more = go(f, 2);
+        way = sequence(f, way, more);
+    }
+    size_t answered = diamond(f, way, atom(f, 1));
+    box(f, always, box(f, asked, answered));
+}
+
+/* The elevator's rule (13) of source 004: ((up* + down*) ; ready? ; serve)* ; wait* leads from the first instant to the final one. It is a
+ * constraint, so the formula is twice negated. There are 11 floors; the elevator starts at the sixth, is called to the lowest and to the
+ * highest, goes up, serves, goes down, serves, and waits four times. */
+enum { UP, DOWN, SERVE, WAIT, READY, AT, FLOORS = 11, CALLED = AT + FLOORS, ELEVATOR_ATOMS = CALLED + FLOORS };
+
+static void ride(struct input *in)
+{
+    static const char plan[] = "uuuuusddddddddddswwww";
+    int floor = 5, called[FLOORS] = {[0] = 1, [FLOORS - 1] = 1};
+    memset(in->cells, 0, sizeof in->cells);
+    for (size_t k = 0; k < in->instants; k++) {
+        uint8_t *cells = in->cells + k * in->atoms;
+        char action = plan[k];
+        cells[UP] = action == 'u' ? 2 : 0;
+        cells[DOWN] = action == 'd' ? 2 : 0;
+        cells[SERVE] = action == 's' ? 2 : 0;
+        cells[WAIT] = action == 'w' ? 2 : 0;
+        cells[READY] = called[floor] ? 2 : 0;
+        cells[AT + floor] = 2;
+        for (int x = 0; x < FLOORS; x++)
+            cells[CALLED + x] = called[x] ? 2 : 0;
+        if (action == 's')
+            called[floor] = 0;
+        floor += (action == 'u') - (action == 'd');
+    }
+}
+
+/* The test that the elevator was called to a floor and is there. */
+static size_t called_here(struct formula *f, size_t x)
+{
+    size_t called = test(f, atom(f, CALLED + x)), at = test(f, atom(f, AT + x));
+    return sequence(f, called, at);
+}
+
+/* Ready as an atom, or written out: called to some floor and there. */
+static size_t ready_test(struct formula *f, int written_out)
+{
+    if (!written_out)
+        return test(f, atom(f, READY));
+    size_t ready = called_here(f, 0);
+    for (size_t x = 1; x < FLOORS; x++) {
+        size_t here = called_here(f, x);
+        ready = choice(f, ready, here);
+    }
+    return ready;
+}
+
+static void elevator(const char *name, int written_out)
+{
+    struct input *in = one(name, ELEVATOR_ATOMS, 22);
+    struct formula *f = &in->formula;
+    size_t up = star(f, go(f, UP)), down = star(f, go(f, DOWN));
+    size_t run = choice(f, up, down), ready = ready_test(f, written_out);
+    size_t served = sequence(f, ready, go(f, SERVE));
+    size_t rounds = star(f, sequence(f, run, served));
+    size_t waits = star(f, go(f, WAIT)), whole = sequence(f, rounds, waits);
+    size_t last = step(f);
+    size_t final = box(f, last, no(f));
+    size_t kept = diamond(f, whole, final);
+    not_so(f, not_so(f, kept));
+    ride(in);
+    in->value = 2;
+}
+
+/* ---- 255 records at 32 instants */
+static void dense_stars(void)
+{
+    struct formula *f = &one("stars over step + back", 1, 32)->formula;
+    size_t p = either_way(f);
+    while (left(f) > 2)
+        p = star(f, p);
+    diamond(f, p, atom(f, 0));
+}
+
+static void sparse_stars(void)
+{
+    struct formula *f = &one("stars over step", 1, 32)->formula;
+    size_t p = step(f);
+    while (left(f) > 2)
+        p = star(f, p);
+    box(f, p, atom(f, 0));
+}
+
+/* The star of a pass, a further star and a further pass after it, and again. */
+static void stars_in_stars(void)
+{
+    struct formula *f = &one("stars in stars, with tests", 8, 32)->formula;
+    size_t p = star(f, go(f, 0));
+    for (size_t i = 1; left(f) > 2 + 6; i++) {
+        size_t on = go(f, i % 8);
+        p = star(f, sequence(f, p, on));
+    }
+    diamond(f, p, atom(f, 7));
+}
+
+static void dense_sequences(void)
+{
+    struct formula *f = &one("sequences of dense stars", 1, 32)->formula;
+    size_t p = star(f, either_way(f));
+    while (left(f) > 2 + 5) {
+        size_t q = star(f, either_way(f));
+        p = sequence(f, p, q);
+    }
+    diamond(f, p, atom(f, 0));
+}
+
+static void long_sequence(void)
+{
+    struct formula *f = &one("one long sequence", 32, 32)->formula;
+    size_t p = go(f, 0);
+    for (size_t i = 1; left(f) > 2 + 6; i++) {
+        size_t q = i % 2 == 0 ? go(f, i % 32) : sequence(f, test(f, atom(f, i % 32)), back(f));
+        p = sequence(f, p, q);
+    }
+    diamond(f, p, atom(f, 0));
+}
+
+static void many_tests(void)
+{
+    struct formula *f = &one("a star of many tests", 32, 32)->formula;
+    size_t p = go(f, 0);
+    for (size_t i = 1; left(f) > 3 + 5; i++) {
+        size_t q = go(f, i % 32);
+        p = choice(f, p, q);
+    }
+    box(f, star(f, p), atom(f, 1));
+}
+
+static void nested_tests(void)
+{
+    struct formula *f = &one("tests inside tests", 1, 32)->formula;
+    size_t g = atom(f, 0);
+    while (left(f) >= 5) {
+        size_t p = either_way(f), q = test(f, g);
+        p = sequence(f, q, p);
+        g = left(f) % 2 ? box(f, p, no(f)) : diamond(f, p, yes(f));
+    }
+}
+
+static void boxes_over_choices(void)
+{
+    struct formula *f = &one("boxes over choices", 4, 32)->formula;
+    size_t g = atom(f, 0);
+    for (size_t i = 0; left(f) >= 7; i++) {
+        size_t p = either_way(f), tested = test(f, atom(f, i % 4));
+        g = box(f, choice(f, p, tested), g);
+    }
+}
+
+static void deep_modalities(void)
+{
+    struct formula *f = &one("deep modalities", 1, 32)->formula;
+    size_t g = atom(f, 0);
+    for (size_t i = 0; left(f) >= 2; i++) {
+        size_t p = i % 4 < 2 ? step(f) : back(f);
+        g = i % 3 == 0 ? box(f, p, g) : diamond(f, p, g);
+    }
+}
+
+static void nested_untils(void)
+{
+    struct formula *f = &one("untils inside untils", 32, 32)->formula;
+    size_t g = atom(f, 0);
+    for (size_t i = 1; left(f) >= 6; i++) {
+        size_t p = star(f, go(f, i % 32));
+        g = diamond(f, p, g);
+    }
+}
+
+/* ---- random formulas */
+static size_t random_path(struct input *in, size_t size);
+
+static size_t random_formula(struct input *in, size_t size)
+{
+    struct formula *f = &in->formula;
+    if (size == 1)
+        return below(8) == 0 ? yes(f) : atom(f, below(in->atoms));
+    /* No formula has two records, so none is left for the second part. */
+    size_t first = 1 + below(size - 2);
+    if (size - 1 - first == 2)
+        first++;
+    size_t path = random_path(in, first), end = random_formula(in, size - 1 - first);
+    return below(2) ? box(f, path, end) : diamond(f, path, end);
+}
+
+static size_t random_path(struct input *in, size_t size)
+{
+    struct formula *f = &in->formula;
+    if (size == 1)
+        return below(3) == 0 ? back(f) : step(f);
+    if (size != 3 && below(3) == 0)
+        return test(f, random_formula(in, size - 1));
+    if (size == 2 || below(4) == 0)
+        return star(f, random_path(in, size - 1));
+    size_t first = 1 + below(size - 2);
+    size_t p = random_path(in, first), q = random_path(in, size - 1 - first);
+    return below(3) == 0 ? choice(f, p, q) : sequence(f, p, q);
+}
+
+static void random_formulas(const char *name, size_t size, size_t instants)
+{
+    random_formula(one(name, 8, instants), size);
+    for (size_t i = 1; i < MOST_INPUTS; i++)
+        random_formula(next(8, instants), size);
+}
+
+size_t build_workloads(void)
+{
+    until();
+    respond();
+    elevator("elevator, rule (13)", 0);
+    elevator("elevator, ready written out", 1);
+    dense_stars();
+    sparse_stars();
+    stars_in_stars();
+    dense_sequences();
+    long_sequence();
+    many_tests();
+    nested_tests();
+    boxes_over_choices();
+    deep_modalities();
+    nested_untils();
+    random_formulas("random, 7 records", 7, 32);
+    random_formulas("random, 31 records, 8 instants", 31, 8);
+    random_formulas("random, 31 records", 31, 32);
+    random_formulas("random, 127 records", 127, 32);
+    random_formulas("random, 255 records, 16 instants", 255, 16);
+    random_formulas("random, 255 records", 255, 32);
+    return count;
+}
