@@ -39,7 +39,8 @@ extern "C" {
 enum {
     PASTUREQUILL_RECORD_SIZE = 6,    /* bytes of one record */
     PASTUREQUILL_MOST_RECORDS = 255, /* records of one formula */
-    PASTUREQUILL_MOST_ATOMS = 32
+    PASTUREQUILL_MOST_ATOMS = 32,
+    PASTUREQUILL_MOST_INSTANTS = 32
 };
 
 /* ---- kinds: F is a formula, P a path; what fields a and b hold stands behind each, and a field that holds nothing is zero */
@@ -67,7 +68,9 @@ enum {
     PASTUREQUILL_NO_SUCH_ATOM = 5,  /* an atom number that is not below the number of atoms */
     PASTUREQUILL_WRONG_SORT = 6,    /* a formula where a path belongs or a path where a formula does; the last record is a path */
     PASTUREQUILL_NOT_A_TREE = 7,    /* a record before the last is the child of no place or of several */
-    PASTUREQUILL_WRONG_SIZE = 8     /* over 32 atoms */
+    PASTUREQUILL_WRONG_SIZE = 8,    /* over 32 atoms; instants not 1 to 32; another number of cells than atoms times instants */
+    PASTUREQUILL_WRONG_CELL = 9,    /* a cell over 2 */
+    PASTUREQUILL_NO_ROOM = 10       /* output shorter than needed */
 };
 
 /* Whether the bytes are the records of a formula over so many atoms, numbered from 0.
@@ -75,6 +78,23 @@ enum {
  *   atoms                   any number; 0 to 32 are taken
  * Gives 0, or the first of these that applies: 1; 8; for each record from the first 2, 3, 4, 5, 6; 6 for the last record; 7. */
 uint8_t pasturequill_check(const uint8_t *records, size_t records_size, uint64_t atoms);
+
+/* ---- value
+ * A trace has instants 1 to 32, and a row of `atoms` cells for each: 0 false, 1 true there only, 2 true here. The table gets a row of
+ * `instants` bytes for each record: a formula's values at each instant, 0 for a path. */
+typedef struct {
+    uint8_t refusal; /* 0, or the number of the first refusal that applies */
+    uint8_t value;   /* the whole formula's value at the first instant; 0 on a refusal */
+} pasturequill_valued;
+
+/* The values of a formula over a trace.
+ *   records, records_size   any bytes
+ *   atoms, instants         any numbers; 0 to 32 atoms and 1 to 32 instants are taken
+ *   cells, cells_size       any bytes; atoms times instants cells of 0 to 2 are taken, rows in order
+ *   table, table_size       records times instants bytes are written at its start, the rest stays; on a refusal all stays
+ * Gives the first refusal that applies: 1; 8; for each record from the first 2, 3, 4, 5, 6; 6 for the last record; 7; 9; 10. */
+pasturequill_valued pasturequill_value(const uint8_t *records, size_t records_size, uint64_t atoms, uint64_t instants,
+                                       const uint8_t *cells, size_t cells_size, uint8_t *table, size_t table_size);
 
 #ifdef __cplusplus
 }
