@@ -1,6 +1,6 @@
 .PHONY: demo test bench
 
-# A planner in C asks the library about four rules.
+# A planner in C checks a rule and values it over five plans.
 demo:
 	bash tests/run
 	target/c/planner

@@ -1,26 +1,27 @@
 /* Pasturequill: rules of conduct for robots.
  *
  * A formula is a run of six-byte records: kind, a zero byte, field a and field b (two bytes each, low byte first). A child's record
- * stands before its parent's; the last record is the whole formula. A program that checks "p until q", written in core records:
+ * stands before its parent's; the last record is the whole formula. "Eventually p", over the plan in which p holds at the third of three
+ * instants:
  *
  *     #include <stdio.h>
  *     #include "pasturequill.h"
  *
  *     int main(void)
  *     {
- *         static const uint8_t until[] = {
- *             PASTUREQUILL_ATOM,     0, 0, 0, 0, 0,    // 0: p
- *             PASTUREQUILL_TEST,     0, 0, 0, 0, 0,    // 1: p?
- *             PASTUREQUILL_STEP,     0, 0, 0, 0, 0,    // 2: step
- *             PASTUREQUILL_SEQUENCE, 0, 1, 0, 2, 0,    // 3: p? ; step
- *             PASTUREQUILL_STAR,     0, 3, 0, 0, 0,    // 4: (p? ; step)*
- *             PASTUREQUILL_ATOM,     0, 1, 0, 0, 0,    // 5: q
- *             PASTUREQUILL_DIAMOND,  0, 4, 0, 5, 0,    // 6: <(p? ; step)*>q
+ *         static const uint8_t eventually[] = {
+ *             PASTUREQUILL_STEP,    0, 0, 0, 0, 0,    // 0: step
+ *             PASTUREQUILL_STAR,    0, 0, 0, 0, 0,    // 1: step*
+ *             PASTUREQUILL_ATOM,    0, 0, 0, 0, 0,    // 2: p
+ *             PASTUREQUILL_DIAMOND, 0, 1, 0, 2, 0,    // 3: <step*>p
  *         };
- *         printf("%d\n", pasturequill_check(until, sizeof until, 2));
+ *         static const uint8_t plan[] = {0, 0, 2};
+ *         uint8_t table[4 * 3];
+ *         pasturequill_valued v = pasturequill_value(eventually, sizeof eventually, 1, 3, plan, sizeof plan, table, sizeof table);
+ *         printf("%d %d\n", v.refusal, v.value);      // 0 2
  *     }
  *
- * examples/planner.c is a longer one. Link with libpasturequill.a.
+ * examples/planner.c is a small planner. Link with libpasturequill.a.
  *
  * Every function takes any bytes, lengths and numbers and gives an answer. A slice is a pointer and the number of its elements, which
  * must be readable (writable, where the pointer is not const); where the number is 0 the pointer is not read. What each function
