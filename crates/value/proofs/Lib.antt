@@ -6,7 +6,6 @@ pub mod Rowing
 pub mod Following
 pub mod Leading
 pub mod Closure
-pub mod Passing
 pub mod Same
 pub mod Numbers
 pub mod Meant

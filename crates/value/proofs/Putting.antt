@@ -1,6 +1,5 @@
 -- A row of the table that is written from its front, one store a turn. The store at start + k changes that place alone,
--- so the cells that were passed go by the rule f, and all other places are as they were. A row that ends at or before
--- `start` is among those, so what a modality makes of it is the same before and after each turn.
+-- so the cells that were passed go by the rule f, and all other places are as they were.
 use Prim.Native.Nat.{ℕ, _+_, _<_, _≤_}
 use mathlib.Core.Path.{_≡_, refl, _∙_}
 use mathlib.Core.List.{List}
@@ -8,10 +7,10 @@ use native.Mathlib.Omega.{arith}
 use borrow.Author.Count.{below-more}
 use lib.ListN.{length, set, length-set}
 use lib.Seq.{getD-set-same, getD-set-other}
-use Rattle.meaning.specs.Record.{Mode, diamond, box}
-use Rattle.meaning.specs.Value.{Square, diamondRow, boxRow, modalRow}
-use Rattle.meaning.proofs.Bounds.{greatest-same, least-same}
+use Rattle.meaning.specs.Record.{Mode}
+use Rattle.meaning.specs.Value.{Square, modalRow}
 use Rattle.value.specs.Cells.{rowAt, Put}
+use Rattle.value.proofs.Same.{modal-same}
 
 pub put-none : {start : ℕ} {f : ℕ → ℕ} {t : List ℕ} → Put 0 start f t t
 put-none = record { size = refl; before = λ i h. refl; here = λ k h. absurd (omega arith); after = λ i h. refl }
@@ -33,16 +32,11 @@ put-more {k} {start} {v} {f} {old} {t} w h e =
 pub put-done : {k l start : ℕ} {f : ℕ → ℕ} {old t : List ℕ} → Put k start f old t → k ≡ l → Put l start f old t
 put-done w e = rw (← e) w
 
--- ---- a modality over an earlier row
-modal-kept : {k start : ℕ} {f : ℕ → ℕ} {old t : List ℕ} (m : Mode) (L from : ℕ) (p : Square) (i : ℕ)
-    → Put k start f old t → from + L ≤ start
-    → modalRow m L p (rowAt t from) i ≡ modalRow m L p (rowAt old from) i
-unfolding modalRow diamondRow boxRow
-modal-kept diamond L from p i w h = greatest-same L _ _ (λ j l. rw (w .before (from + j) (omega arith)))
-modal-kept box L from p i w h = least-same L _ _ (λ j l. rw (w .before (from + j) (omega arith)))
-
+-- The next value of a modality over a row that ends at or before `start`, which no turn has changed.
 pub put-modal-more : {k start v : ℕ} {old t : List ℕ} (m : Mode) (L from : ℕ) (p : Square)
     → Put k start (modalRow m L p (rowAt old from)) old t → start + k < length old → from + L ≤ start
     → v ≡ modalRow m L p (rowAt t from) k
     → Put (k + 1) start (modalRow m L p (rowAt old from)) old (set t (start + k) v)
-put-modal-more m L from p w h ends e = put-more w h (e ∙ modal-kept m L from p _ w ends)
+put-modal-more {k} {start} {v} {old} {t} m L from p w h ends e =
+    put-more w h (e ∙ modal-same L m p p (rowAt t from) (rowAt old from) k (λ j l. refl)
+    (λ j l. w .before (from + j) (omega arith)))

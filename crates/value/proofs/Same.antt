@@ -19,15 +19,17 @@ pub holds-same : {L : ℕ} {s : _} {f g : Square} → Holds L s f → Agree L f 
 holds-same w e = record { size = w .size; cells = λ k j h l. w .cells k j h l ∙ e k j h l }
 
 module _ (L : ℕ) where
-  sequence-same : (p p′ q q′ : Square) → Agree L p p′ → Agree L q q′ → Agree L (sequenceSquare L p q) (sequenceSquare L p′ q′)
+  -- A sequence from k to j looks at the values from k, and at those to j.
+  pub sequence-same : (p p′ q q′ : Square) (k j : ℕ) → ((i : ℕ) → i < L → p k i ≡ p′ k i) → ((i : ℕ) → i < L → q i j ≡ q′ i j)
+      → sequenceSquare L p q k j ≡ sequenceSquare L p′ q′ k j
   unfolding sequenceSquare
-  sequence-same p p′ q q′ d e k j h l = greatest-same L _ _ (λ i m. ap₂ min (d k i h m) (e i j m l))
+  sequence-same p p′ q q′ k j d e = greatest-same L _ _ (λ i m. ap₂ min (d i m) (e i m))
 
   join-same : (b : Bool) (p p′ q q′ : Square) → Agree L p p′ → Agree L q q′
       → Agree L (cond b (choiceSquare p q) (sequenceSquare L p q)) (cond b (choiceSquare p′ q′) (sequenceSquare L p′ q′))
   unfolding choiceSquare
   join-same true p p′ q q′ d e k j h l = ap₂ max (d k j h l) (e k j h l)
-  join-same false p p′ q q′ d e k j h l = sequence-same p p′ q q′ d e k j h l
+  join-same false p p′ q q′ d e k j h l = sequence-same p p′ q q′ k j (λ i m. d k i h m) (λ i m. e i j m l)
 
   pub joined-same : (kind : ℕ) (p p′ q q′ : Square) → Agree L p p′ → Agree L q q′ → Agree L (joinOf kind L p q) (joinOf kind L p′ q′)
   unfolding joinOf
@@ -35,8 +37,9 @@ module _ (L : ℕ) where
 
   passes-same : (p p′ : Square) → Agree L p p′ → (n : ℕ) → Agree L (passes L p n) (passes L p′ n)
   unfolding passes
-  passes-same p p′ e zero = λ k j h l. refl
-  passes-same p p′ e (suc n) = sequence-same p p′ (passes L p n) (passes L p′ n) e (passes-same p p′ e n)
+  passes-same p p′ e zero k j h l = refl
+  passes-same p p′ e (suc n) k j h l =
+      sequence-same p p′ (passes L p n) (passes L p′ n) k j (λ i m. e k i h m) (λ i m. passes-same p p′ e n i j m l)
 
   pub star-same : (p p′ : Square) → Agree L p p′ → Agree L (starSquare L p) (starSquare L p′)
   unfolding starSquare
