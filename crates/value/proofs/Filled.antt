@@ -16,7 +16,7 @@ use Rattle.value.specs.Valuing.{Under, Right, Legal, Asked, Valued}
 use Rattle.value.proofs.Table.{row-end}
 use Rattle.value.proofs.Tabled.{rows-written}
 use Rattle.value.proofs.Reached.{all-under}
-use Rattle.value.proofs.Recursion.{row-room}
+use Rattle.value.proofs.Children.{row-room}
 
 module _ {s : List ℕ} {A L : ℕ} {cells d : List ℕ} (w : Legal s A L cells (length d)) {n r : ℕ} (number : n ≡ count s) (one : suc r ≡ n)
     {cleared : List ℕ} (clear : Put (n * L) 0 (λ k. 0) d cleared) where

@@ -10,6 +10,7 @@ pub mod Same
 pub mod Numbers
 pub mod Meant
 pub mod Table
+pub mod Children
 pub mod Recursion
 pub mod Reached
 pub mod Tabled

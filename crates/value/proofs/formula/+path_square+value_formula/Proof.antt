@@ -6,7 +6,9 @@ use Rattle.meaning.specs.Record.{kindByte, kindAt, sortOf, formula, path}
 use Rattle.value.specs.Valuing.{Asked}
 use Rattle.value.proofs.Numbers.{path-number, formula-number}
 use Rattle.value.proofs.Table.{row-end}
-use Rattle.value.proofs.Recursion.{ask-first, ask-second, row-room, atom-low, test-first, path-first, join-second, modal-first, modal-second, square-low, move-done, test-done, star-done, join-done, constant-done, atom-done, modal-done}
+use Rattle.value.proofs.Children.{Child, ask-first, ask-second, row-room, atom-low}
+use Rattle.value.proofs.Children.{test-first, path-first, join-second, modal-first, modal-second}
+use Rattle.value.proofs.Recursion.{square-low, move-done, test-done, star-done, join-done, constant-done, atom-done, modal-done}
 use borrow.Author.Needs.{needs}
 use Prim.Native.Nat.{ℕ, _<_, _≤_}
 use borrow.Fn.Kinds.{In}
