@@ -17,21 +17,19 @@ abbrev pub Child : List ℕ → ℕ → ℕ → List ℕ → ℕ → ℕ → Lis
 Child s A L cells r q t σ = (q < r) × (Asked s A L cells q t × (sortOf (kindAt s q) ≡ σ))
 
 module _ {s : List ℕ} {A L : ℕ} {cells : List ℕ} {r : ℕ} {t : List ℕ} (w : Asked s A L cells r t) where
-  lower : (t′ : List ℕ) (q : ℕ) → length t′ ≡ length t → q < r → Asked s A L cells q t′
-  lower t′ q e h = record { legal = rw e (w .legal); index = omega (arith, w .index) }
+  lower : (q : ℕ) → q < r → Asked s A L cells q t
+  lower q h = record { legal = w .legal; index = omega (arith, w .index) }
 
-  -- The first child, or the second, of the sort σ, in a table of the same length.
-  pub ask-first : {a : ℕ} {σ : Sort} (t′ : List ℕ) → length t′ ≡ length t → child σ ≡ useA (kindAt s r) → a ≡ fieldA s r
-      → Child s A L cells r a t′ σ
-  ask-first t′ e u f =
-      let h = rw (← u) at (w .legal .formed .first r (w .index)) in
-      rw f (h .0, (lower t′ _ e (h .0), h .1))
+  -- The first child, or the second, of the sort σ.
+  pub ask-first : {a : ℕ} {σ : Sort} → child σ ≡ useA (kindAt s r) → a ≡ fieldA s r → Child s A L cells r a t σ
+  ask-first u f = let h = rw (← u) at (w .legal .formed .first r (w .index)) in rw f (h .0, (lower _ (h .0), h .1))
 
-  pub ask-second : {b : ℕ} {σ : Sort} (t′ : List ℕ) → length t′ ≡ length t → child σ ≡ useB (kindAt s r) → b ≡ fieldB s r
-      → Child s A L cells r b t′ σ
-  ask-second t′ e u f =
-      let h = rw (← u) at (w .legal .formed .second r (w .index)) in
-      rw f (h .0, (lower t′ _ e (h .0), h .1))
+  pub ask-second : {b : ℕ} {σ : Sort} → child σ ≡ useB (kindAt s r) → b ≡ fieldB s r → Child s A L cells r b t σ
+  ask-second u f = let h = rw (← u) at (w .legal .formed .second r (w .index)) in rw f (h .0, (lower _ (h .0), h .1))
+
+  -- All this holds too with a table of the same length.
+  pub ask-along : {t′ : List ℕ} → length t′ ≡ length t → Asked s A L cells r t′
+  ask-along e = record { legal = rw e (w .legal); index = w .index }
 
   -- The record's row lies in the table.
   pub row-room : r * L + L ≤ length t

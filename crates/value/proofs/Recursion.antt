@@ -55,8 +55,8 @@ module _ {s : List ℕ} {A L : ℕ} {cells : List ℕ} {r n : ℕ} {t : List ℕ
         → Put L start (modalRow (modeOf n) L (at bytes) (rowAt t₂ from)) t₂ new → Valued s A L cells r t new
     modal-done {a} {b} {from} {bytes} {t₁} {t₂} {new} l fa fb fr v₁ v₂ q p =
         let five = formula-number (w .legal .formed) r (w .index) f in
-        let ha = ask-first w t refl (modal-first (kindByte s r) (omega arith) five) fa in
-        let hb = ask-second w t refl (modal-second (kindByte s r) (omega arith) five) fb in
+        let ha = ask-first w (modal-first (kindByte s r) (omega arith) five) fa in
+        let hb = ask-second w (modal-second (kindByte s r) (omega arith) five) fb in
         let right-b : Right s A L cells t₂ b = v₂ .steady .right b (v₁ .rows b Under.itself (hb .1 .1)) in
         let put : Put L (r * L) (modalRow (modeOf n) L (at bytes) (rowAt t₂ from)) t₂ new = rw at-row at p in
         let e : (k : ℕ) → k < L → modalRow (modeOf n) L (at bytes) (rowAt t₂ from) k ≡ val w r k =
@@ -97,7 +97,7 @@ module _ {s : List ℕ} {A L : ℕ} {cells : List ℕ} {r n : ℕ} {t : List ℕ
     unfolding testSquare
     test-done {a} {start} {bytes} {t₁} e fa fs v h =
         let seven : kindByte s r ≡ 7 = sym num ∙ e in
-        let ha = ask-first w t refl (test-first (kindByte s r) seven) fa in
+        let ha = ask-first w (test-first (kindByte s r) seven) fa in
         let right-a = v .rows a Under.itself (ha .1 .1) in (
           record {
             steady = steady-lower (ha .0) (v .steady);
@@ -119,7 +119,7 @@ module _ {s : List ℕ} {A L : ℕ} {cells : List ℕ} {r n : ℕ} {t : List ℕ
         → Valued s A L cells r t t₁ × Squared s A L cells r new
     star-done {a} {bytes} e fa v q h =
         let ten : kindByte s r ≡ 10 = sym num ∙ e in
-        let ha = ask-first w t refl (path-first (kindByte s r) (omega arith) (omega arith)) fa in (
+        let ha = ask-first w (path-first (kindByte s r) (omega arith) (omega arith)) fa in (
           record {
             steady = steady-lower (ha .0) (v .steady);
             rows = path-rows (λ _ _ q u g. v .rows q (rw fa u) g) (λ σ u. absurd (star-second _ ten σ u));
@@ -132,8 +132,8 @@ module _ {s : List ℕ} {A L : ℕ} {cells : List ℕ} {r n : ℕ} {t : List ℕ
         → Valued s A L cells a t t₁ → Squared s A L cells a x → Valued s A L cells b t₁ t₂ → Squared s A L cells b y
         → Holds L new (joinOf n L (at x) (at y)) → Valued s A L cells r t t₂ × Squared s A L cells r new
     join-done {a} {b} {x} {y} l m fa fb v₁ qa v₂ qb h =
-        let ha = ask-first w t refl (path-first (kindByte s r) (omega arith) (omega arith)) fa in
-        let hb = ask-second w t refl (join-second (kindByte s r) (omega arith) (omega arith)) fb in (
+        let ha = ask-first w (path-first (kindByte s r) (omega arith) (omega arith)) fa in
+        let hb = ask-second w (join-second (kindByte s r) (omega arith) (omega arith)) fb in (
           record {
             steady = steady-then (steady-lower (ha .0) (v₁ .steady)) (steady-lower (hb .0) (v₂ .steady));
             rows = path-rows (λ _ _ q u g. v₂ .steady .right q (v₁ .rows q (rw fa u) g))
