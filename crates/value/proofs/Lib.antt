@@ -1,12 +1,11 @@
 -- What the proofs of several functions cite.
+pub mod Same
+pub mod Stored
 pub mod Putting
-pub mod Changing
 pub mod Diagonal
-pub mod Rowing
 pub mod Following
 pub mod Leading
 pub mod Closure
-pub mod Same
 pub mod Numbers
 pub mod Meant
 pub mod Table

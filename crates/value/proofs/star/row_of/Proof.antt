@@ -1,21 +1,21 @@
 -- `row_of` meets its contract: after j turns the copy has the row's first j values.
-use Prim.Native.Nat.{_-_}
+use Prim.Native.Nat.{_-_, _≤_}
 use mathlib.Core.Path.{refl}
 use native.Mathlib.Omega.{arith}
 use Rattle.value.specs.Cells.{at}
-use Rattle.value.proofs.Changing.{Changing, changing-none, changing-more}
+use Rattle.value.proofs.Stored.{Stored, stored-none, stored-more}
 use borrow.Author.Needs.{needs}
 use Rattle.value.proofs.star.row_of.Statement.{statement}
 use Rattle.value.proofs.star.row_of.Tie as tie
 
 abbrev Inv-loop : tie.InvT-loop
-Inv-loop s k row₀ j₀ row j = Changing 32 (λ i x. at s k i) row₀ row j
+Inv-loop s k row₀ j₀ row j = (j ≤ 32) × Stored (λ i. i) (at s k) row₀ row j
 
 abbrev μ-loop : tie.MeasureT-loop
 μ-loop s k row₀ j₀ row j = 32 - j
 
 loop-holds : tie.Need-loop-holds Inv-loop μ-loop
-loop-holds c = changing-none refl
+loop-holds c = (omega arith, stored-none)
 
 mul-row : tie.Need-mul-row Inv-loop μ-loop
 mul-row c = search needs
@@ -36,10 +36,10 @@ loop-less : tie.Need-loop-less Inv-loop μ-loop
 loop-less c = search needs
 
 loop-again : tie.Need-loop-again Inv-loop μ-loop
-loop-again c = changing-more (c .before .before .loop .inv) (omega arith) refl
+loop-again c = (omega arith, stored-more (c .before .before .loop .inv .1) refl (omega arith) refl (λ i h. h))
 
 returns : tie.Need-returns Inv-loop μ-loop
-returns c = λ j h. c .before .loop .inv .passed j (omega arith)
+returns c = λ j h. c .before .loop .inv .1 .on j (omega arith)
 
 pub row-of-spec : {M : Type 1} → statement M
 row-of-spec =

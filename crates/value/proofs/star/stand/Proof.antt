@@ -2,21 +2,20 @@
 use Prim.Native.Nat.{_-_, _≤_}
 use mathlib.Core.Path.{refl}
 use native.Mathlib.Omega.{arith}
-use lib.ListN.{getD}
-use Rattle.value.specs.Closing.{standing}
-use Rattle.value.proofs.Diagonal.{Diagonal, diagonal-none, diagonal-more, diagonal-self}
+use Rattle.value.proofs.Stored.{stored-none, stored-more}
+use Rattle.value.proofs.Diagonal.{Diagonal, stand-marked}
 use borrow.Author.Needs.{needs}
 use Rattle.value.proofs.star.stand.Statement.{statement}
 use Rattle.value.proofs.star.stand.Tie as tie
 
 abbrev Inv-loop : tie.InvT-loop
-Inv-loop s₀ l k₀ s k = (k ≤ l) × Diagonal 0 (λ i. 2) (λ m. getD s₀ m 0) s k
+Inv-loop s₀ l k₀ s k = (k ≤ l) × Diagonal 0 (λ i. 2) s₀ s k
 
 abbrev μ-loop : tie.MeasureT-loop
 μ-loop s₀ l k₀ s k = l - k
 
 loop-holds : tie.Need-loop-holds Inv-loop μ-loop
-loop-holds c = (search needs, diagonal-none (c .pre .1) (λ m h. refl))
+loop-holds c = (search needs, stored-none)
 
 mul-s : tie.Need-mul-s Inv-loop μ-loop
 mul-s c = search needs
@@ -31,11 +30,12 @@ loop-less : tie.Need-loop-less Inv-loop μ-loop
 loop-less c = search needs
 
 loop-again : tie.Need-loop-again Inv-loop μ-loop
-loop-again c = (omega arith, diagonal-more (c .before .loop .inv .1) (omega arith) (omega arith) refl)
+loop-again c = (omega arith, stored-more (c .before .loop .inv .1) (omega arith) (omega arith) refl (λ i h. omega arith))
 
 returns : tie.Need-returns Inv-loop μ-loop
-unfolding standing
-returns c = diagonal-self (c .before .before .pre .0) (omega arith) (c .before .loop .inv .1)
+returns c =
+    let pre = c .before .before .pre in
+    stand-marked (pre .0) (pre .1) (omega arith) (c .before .loop .inv .1)
 
 pub stand-spec : {M : Type 1} → statement M
 stand-spec =
