@@ -1,8 +1,8 @@
--- What the children of a record are asked. The records are well formed, so a field that holds a child holds an earlier record of the
--- child's sort, and what is asked of the record holds of that one too. Which fields hold children the number of the record's kind says:
--- for each field it is the same over a stretch of numbers.
+-- What the children of a record are asked. The records are well formed, so a field that holds a child holds an earlier
+-- record of the child's sort, and what is asked of the record holds of that one too. Which fields hold children the
+-- number of the record's kind says: for each field it is the same over a stretch of numbers.
 use Prim.Native.Nat.{ℕ, _+_, _*_, _<_, _≤_}
-use mathlib.Core.Path.{_≡_, refl, sym, _∙_}
+use mathlib.Core.Path.{_≡_, refl}
 use mathlib.Core.List.{List}
 use native.Mathlib.Omega.{arith}
 use lib.ListN.{length}

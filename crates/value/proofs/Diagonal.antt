@@ -1,5 +1,5 @@
--- A square that is written along a diagonal, at the places d, d + 33, d + 66 and so on. A place is on it or not: there it has the rule's
--- value, and elsewhere it is as it was. For the squares of moves and tests that is 0.
+-- A square that is written along a diagonal, at the places d, d + 33, d + 66 and so on. A place is on it or not: there
+-- it has the rule's value, and elsewhere it is as it was. For the squares of moves and tests that is 0.
 use Prim.Native.Nat.{ℕ, _+_, _*_, _<_, _≤_}
 use mathlib.Core.Path.{_≡_, refl, _∙_}
 use mathlib.Core.Bool.{Bool, true, false, cond}
@@ -66,7 +66,8 @@ pub move-marked : (kind : ℕ) {s : List ℕ} {l n : ℕ} → l ≤ 32 → n ≤
 unfolding nextCell wayOf moveSquare
 move-marked kind {s} {l} {n} u b e = go (eqb kind 5)
   where
-    go : (t : Bool) → Diagonal (cond t 1 32) (λ i. 2) (replicate 1024 0) s n → Holds l s (moveSquare (cond t ahead back))
+    go : (t : Bool) → Diagonal (cond t 1 32) (λ i. 2) (replicate 1024 0) s n
+        → Holds l s (moveSquare (cond t ahead back))
     go true w =
         diagonal-holds {base = λ m. 0} u refl zeros-at 1 (λ k j. k) (λ k j. j) (λ k j. k + 1) w
         (λ k j p q z. (omega arith, omega arith)) (λ k j x p q h z. omega arith)

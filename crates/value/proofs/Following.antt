@@ -1,5 +1,5 @@
--- A square that is written row by row from its front, by the rule f. Writing row k changes no other row, so the rows that
--- were passed go by the rule, and those ahead are as they were.
+-- A square that is written row by row from its front, by the rule f. Writing row k changes no other row, so the rows
+-- that were passed go by the rule, and those ahead are as they were.
 use Prim.Native.Nat.{ℕ, _+_, _<_, _≤_}
 use mathlib.Core.Path.{_≡_, refl, _∙_}
 use mathlib.Core.List.{List}
@@ -36,7 +36,8 @@ following-done w h b = record { size = w .size; cells = λ r j p q. w .passed r 
 -- ---- a pass by way of mid
 -- Row k is made of itself, which no turn before has changed, and of a copy f of row mid from before the first turn.
 pub passing-more : {mid k : ℕ} {f : ℕ → ℕ} {old s new : List ℕ} → mid < 32 → Following (by (at old) mid) old s k
-    → ((j : ℕ) → j < 32 → f j ≡ at old mid j) → Passed k (at s k mid) f s new → Following (by (at old) mid) old new (k + 1)
+    → ((j : ℕ) → j < 32 → f j ≡ at old mid j) → Passed k (at s k mid) f s new
+    → Following (by (at old) mid) old new (k + 1)
 unfolding by
 passing-more {mid} {k} h w copy p =
     let own = w .ahead k (le-refl k) in

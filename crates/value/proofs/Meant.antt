@@ -1,5 +1,5 @@
--- What a record is worth from what its children are worth, by the number of its kind. The tree of a well-formed record is its node
--- over its children's trees, and a node's value is the matching operation on theirs.
+-- What a record is worth from what its children are worth, by the number of its kind. The tree of a well-formed record
+-- is its node over its children's trees, and a node's value is the matching operation on theirs.
 use Prim.Native.Nat.{ℕ, zero, suc, _*_, _<_, _≤_}
 use mathlib.Core.Path.{_≡_, refl, ap, _∙_}
 use mathlib.Core.Bool.{Bool, true, false, cond}
@@ -14,7 +14,8 @@ use Rattle.meaning.specs.Value.{choiceSquare, sequenceSquare, starSquare}
 use Rattle.meaning.proofs.Nodes.{tree-of}
 use Rattle.value.specs.Cells.{wayOf, modeOf, joinOf}
 use Rattle.value.specs.Valuing.{Asked}
-use Rattle.value.proofs.Numbers.{constant-kind, atom-kind, modal-kind, move-kind, test-kind, join-kind, star-kind}
+use Rattle.value.proofs.Numbers.{constant-kind, atom-kind, modal-kind, move-kind, test-kind, join-kind}
+use Rattle.value.proofs.Numbers.{star-kind}
 
 module _ {s : List ℕ} {A L : ℕ} {cells : List ℕ} {r : ℕ} {t : List ℕ} (w : Asked s A L cells r t) where
   -- What the formula q, and the path q, of the records are worth.
@@ -63,7 +64,7 @@ module _ {s : List ℕ} {A L : ℕ} {cells : List ℕ} {r : ℕ} {t : List ℕ} 
   square-test k j e = rw (path-node (ap kindOf e ∙ test-kind))
 
   join-square : (b : Bool) (k j : ℕ) → squareOf L (cellOf A cells) (asPath (node (cond b choice sequence))) k j
-      ≡ (cond b (choiceSquare (sq (fieldA s r)) (sq (fieldB s r))) (sequenceSquare L (sq (fieldA s r)) (sq (fieldB s r)))) k j
+      ≡ (let p = sq (fieldA s r) in let q = sq (fieldB s r) in cond b (choiceSquare p q) (sequenceSquare L p q)) k j
   unfolding nodeOf asPath squareOf
   join-square true k j = refl
   join-square false k j = refl

@@ -1,6 +1,6 @@
--- Rows that are written from their front. The places of a row stand side by side, so a place before or behind the row, or in another row of
--- a square, is none of them and is as it was. What a modality makes of an earlier row of the table is then the same before and after each
--- turn.
+-- Rows that are written from their front. The places of a row stand side by side, so a place before or behind the row,
+-- or in another row of a square, is none of them and is as it was. What a modality makes of an earlier row of the table
+-- is then the same before and after each turn.
 use Prim.Native.Nat.{ℕ, _+_, _*_, _<_, _≤_}
 use mathlib.Core.Path.{_≡_, refl, _∙_}
 use mathlib.Core.List.{List}
@@ -26,7 +26,8 @@ along-put w e = rw (← e) (record {
 })
 
 -- A row of a square.
-pub along-rowed : {k n : ℕ} {f : ℕ → ℕ} {old s : List ℕ} → length old ≡ 1024 → Along (k * 32) f old s n → n ≡ 32 → Rowed k f old s
+pub along-rowed : {k n : ℕ} {f : ℕ → ℕ} {old s : List ℕ} → length old ≡ 1024 → Along (k * 32) f old s n → n ≡ 32
+    → Rowed k f old s
 along-rowed size w e = record {
   size = w .size ∙ size;
   row = λ j h. w .on j (omega arith);
@@ -40,5 +41,5 @@ pub along-modal : {n v : ℕ} {old t : List ℕ} (m : Mode) (L from start : ℕ)
     → Along start (modalRow m L p (rowAt old from)) old (set t (start + n) v) (n + 1)
 along-modal {n} {v} {old} {t} m L from start p w h ends e =
     let same = modal-same L m p p (rowAt t from) (rowAt old from) n (λ j l. refl)
-        (λ j l. w .off (from + j) (λ i k z. omega arith)) in
+    (λ j l. w .off (from + j) (λ i k z. omega arith)) in
     stored-more w refl h (e ∙ same) (λ i l. omega arith)

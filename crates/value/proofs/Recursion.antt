@@ -1,8 +1,8 @@
--- What a record has from its children, kind by kind. Its children were valued one after the other, each leaving right rows right; what
--- stands under the record is the record itself and what stands under its children; and its own row or square is the matching operation
--- on theirs.
+-- What a record has from its children, kind by kind. Its children were valued one after the other, each leaving right
+-- rows right; what stands under the record is the record itself and what stands under its children; and its own row or
+-- square is the matching operation on theirs.
 use Prim.Native.Nat.{ℕ, _+_, _*_, _<_, _≤_}
-use mathlib.Core.Path.{_≡_, refl, sym, ap, _∙_}
+use mathlib.Core.Path.{_≡_, sym, ap, _∙_}
 use mathlib.Core.Bool.{cond}
 use mathlib.Core.List.{List}
 use native.Mathlib.Omega.{arith}
@@ -19,10 +19,13 @@ use Rattle.value.proofs.Meant.{val, sq, value-constant, value-atom, val
 use Rattle.value.proofs.Meant.{square-move, square-test, square-join, square-star}
 use Rattle.value.proofs.Same.{holds-same, joined-same, star-same, modal-same}
 use Rattle.value.proofs.Table.{under-all, steady-same, steady-lower, steady-then, put-right, put-steady}
-use Rattle.value.proofs.Children.{ask-first, ask-second, modal-first, modal-second, test-first, path-first, join-second}
-use Rattle.value.proofs.Children.{Childless, constant-first, atom-first, leaf-second, move-first, move-second, star-second}
+use Rattle.value.proofs.Children.{ask-first, ask-second, modal-first, modal-second, test-first, path-first}
+use Rattle.value.proofs.Children.{join-second}
+use Rattle.value.proofs.Children.{Childless, constant-first, atom-first, leaf-second, move-first}
+use Rattle.value.proofs.Children.{move-second, star-second}
 
-module _ {s : List ℕ} {A L : ℕ} {cells : List ℕ} {r n : ℕ} {t : List ℕ} (w : Asked s A L cells r t) (num : n ≡ kindByte s r) where
+module _ {s : List ℕ} {A L : ℕ} {cells : List ℕ} {r n : ℕ} {t : List ℕ} (w : Asked s A L cells r t)
+    (num : n ≡ kindByte s r) where
   -- If the record q is a formula, then its row is right.
   abbrev Done : List ℕ → ℕ → Type 0
   Done new q = sortOf (kindAt s q) ≡ formula → Right s A L cells new q
@@ -66,7 +69,8 @@ module _ {s : List ℕ} {A L : ℕ} {cells : List ℕ} {r n : ℕ} {t : List ℕ
         ∙ rw (fa, fb, num) (sym (value-modal w k (omega arith) five)) in
         let last = put-steady put e f in
         record {
-          steady = steady-then (steady-lower (hb .0) (v₁ .steady)) (steady-then (steady-lower (ha .0) (v₂ .steady)) last);
+          steady = steady-then (steady-lower (hb .0) (v₁ .steady))
+              (steady-then (steady-lower (ha .0) (v₂ .steady)) last);
           rows = under-all (Done new) (λ _. put-right put e)
               (λ _ _ q u g. last .right q (v₂ .rows q (rw fa u) g))
               (λ _ _ q u g. last .right q (v₂ .steady .right q (v₁ .rows q (rw fb u) g)));
@@ -75,7 +79,8 @@ module _ {s : List ℕ} {A L : ℕ} {cells : List ℕ} {r n : ℕ} {t : List ℕ
   -- ---- paths
   module _ (p : sortOf (kindAt s r) ≡ path) where
     -- What is under a path, from what is under its children.
-    path-rows : {new : List ℕ} → ((σ : Sort) → useA (kindAt s r) ≡ child σ → (q : ℕ) → Under s (fieldA s r) q → Done new q)
+    path-rows : {new : List ℕ}
+        → ((σ : Sort) → useA (kindAt s r) ≡ child σ → (q : ℕ) → Under s (fieldA s r) q → Done new q)
         → ((σ : Sort) → useB (kindAt s r) ≡ child σ → (q : ℕ) → Under s (fieldB s r) q → Done new q)
         → (q : ℕ) → Under s r q → Done new q
     path-rows {new} = under-all (Done new) (λ g. absurd (differs g p))
@@ -92,8 +97,9 @@ module _ {s : List ℕ} {A L : ℕ} {cells : List ℕ} {r n : ℕ} {t : List ℕ
           holds-same h (λ k j _ _. rw num (sym (square-move w k j five (omega arith)))),
         )
 
-    pub test-done : {a start : ℕ} {bytes t₁ : List ℕ} → n ≡ 7 → a ≡ fieldA s r → start ≡ a * L → Valued s A L cells a t t₁
-        → Holds L bytes (testSquare (rowAt t₁ start)) → Valued s A L cells r t t₁ × Squared s A L cells r bytes
+    pub test-done : {a start : ℕ} {bytes t₁ : List ℕ} → n ≡ 7 → a ≡ fieldA s r → start ≡ a * L
+        → Valued s A L cells a t t₁ → Holds L bytes (testSquare (rowAt t₁ start))
+        → Valued s A L cells r t t₁ × Squared s A L cells r bytes
     unfolding testSquare
     test-done {a} {start} {bytes} {t₁} e fa fs v h =
         let seven : kindByte s r ≡ 7 = sym num ∙ e in
@@ -109,7 +115,8 @@ module _ {s : List ℕ} {A L : ℕ} {cells : List ℕ} {r n : ℕ} {t : List ℕ
         )
 
     -- A path's square has values, which the star's closure asks for.
-    pub square-low : (a : ℕ) {bytes : List ℕ} → Squared s A L cells a bytes → (k j : ℕ) → k < L → j < L → at bytes k j ≤ 2
+    pub square-low : (a : ℕ) {bytes : List ℕ} → Squared s A L cells a bytes
+        → (k j : ℕ) → k < L → j < L → at bytes k j ≤ 2
     square-low a q k j h l =
         let low = square-bound L (cellOf A cells) (λ k i _. w .legal .low (A * k + i)) (pathAt s a) k j h in
         omega (arith, q .cells k j h l)

@@ -1,5 +1,6 @@
--- A list that is written at the places p 0, p 1, p 2 and so on, one store a turn. The places rise, so no store changes what an earlier one
--- put: after n turns the first n places have the values that the rule f gives, and every other place is as it was.
+-- A list that is written at the places p 0, p 1, p 2 and so on, one store a turn. The places rise, so no store changes
+-- what an earlier one put: after n turns the first n places have the values that the rule f gives, and every other
+-- place is as it was.
 use Prim.Native.Nat.{ℕ, _+_, _<_}
 use mathlib.Core.Path.{_≡_, refl, _∙_}
 use mathlib.Core.List.{List}

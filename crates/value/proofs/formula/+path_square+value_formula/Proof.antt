@@ -1,6 +1,6 @@
--- `path_square` and `value_formula`, which call each other, meet their contracts. The measure of either is the number of its record, and
--- a child is earlier, so each call is below its caller's measure. Each branch is a kind: its children are asked, and what comes back is put
--- together by the law for that kind.
+-- `path_square` and `value_formula`, which call each other, meet their contracts. The measure of either is the number
+-- of its record, and a child is earlier, so each call is below its caller's measure. Each branch is a kind: its
+-- children are asked, and what comes back is put together by the law for that kind.
 use mathlib.Core.Path.{sym, _∙_}
 use native.Mathlib.Omega.{arith}
 use Rattle.meaning.specs.Record.{kindByte, Sort, formula, path}
@@ -108,8 +108,8 @@ value-formula-claims t = (
 
 module _ (t : ℕ) where
   -- ---- places of path_square
-  abbrev of-path : (path-square-lts.Claims → In 3 path-square-kinds.ps → Out 3 path-square-kinds.ps path-square-kinds.r → Type 0)
-      → Type 0
+  abbrev of-path : (path-square-lts.Claims → In 3 path-square-kinds.ps
+      → Out 3 path-square-kinds.ps path-square-kinds.r → Type 0) → Type 0
   of-path X = X (path-square-claims t) (path-square-at t) path-square.Post
 
   abbrev p-start : of-path path-square-lts.After-field-a → of-path path-square-lts.Start
@@ -151,7 +151,8 @@ module _ (t : ℕ) where
       let x = p-start (else .before) .args in
       let ten = c .before .if3 .left in
       let n = eight else in
-      let less : kindByte (x .records .now) (x .p) < 10 = omega (arith, else .before .before .before .kind-at .ensures) in
+      let num = else .before .before .before .kind-at .ensures in
+      let less : kindByte (x .records .now) (x .p) < 10 = omega arith in
       ask-second (p-start (else .before) .pre .1 .0) (join-second _ (n .0) less) (c .field-b .ensures)
 
   -- ---- places of value_formula
@@ -180,7 +181,8 @@ module _ (t : ℕ) where
   f-row c = c .before .before .before .before
 
   -- Its formula, and its path.
-  goal-child : (c : of-formula value-formula-lts.After-field-b) → F-child (f-start (f-row c)) (c .field-b .result) formula
+  goal-child : (c : of-formula value-formula-lts.After-field-b)
+      → F-child (f-start (f-row c)) (c .field-b .result) formula
   goal-child c =
       let n = three (c .before) in
       ask-second (f-start (f-row c) .pre .1 .0) (modal-second _ (n .0) (n .1)) (c .field-b .ensures)
@@ -260,8 +262,8 @@ module _ (t : ℕ) where
       let else = c .before .before .before .before .before .before .before in
       let s = p-start (else .before) in
       let q = c .before .before .before .before .before .path-square .ensures in
-      star-done (s .pre .1 .0) (else .before .before .before .kind-at .ensures) (s .pre .1 .1) (c .before .before .if3 .taken)
-      (else .before .field-a .ensures) (q .0) (q .1) (c .close .ensures)
+      star-done (s .pre .1 .0) (else .before .before .before .kind-at .ensures) (s .pre .1 .1)
+      (c .before .before .if3 .taken) (else .before .field-a .ensures) (q .0) (q .1) (c .close .ensures)
 
   path-square-field-b-requires : of-path path-square-lts.Need-field-b-requires
   path-square-field-b-requires c κs = search needs
@@ -335,8 +337,8 @@ module _ (t : ℕ) where
       let row = c .before .before .before .before .before .before .before in
       let s = f-start row in
       let then = c .before .before .before .before in
-      atom-done (s .pre .1 .0) (row .before .kind-at .ensures) (s .pre .1 .1) (row .row-start .ensures) (then .if2 .taken)
-      (then .before .field-a .ensures) (c .before .before .put-atom .ensures)
+      atom-done (s .pre .1 .0) (row .before .kind-at .ensures) (s .pre .1 .1) (row .row-start .ensures)
+      (then .if2 .taken) (then .before .field-a .ensures) (c .before .before .put-atom .ensures)
 
   value-formula-field-b-requires : of-formula value-formula-lts.Need-field-b-requires
   value-formula-field-b-requires c κs = search needs

@@ -37,7 +37,8 @@ loop-less : tie.Need-loop-less Inv-loop μ-loop
 loop-less c = search needs
 
 loop-again : tie.Need-loop-again Inv-loop μ-loop
-loop-again c = (omega arith, stored-more (c .before .before .loop .inv .1) (omega arith) (omega arith) refl (λ i h. omega arith))
+loop-again c =
+    (omega arith, stored-more (c .before .before .loop .inv .1) (omega arith) (omega arith) refl (λ i h. omega arith))
 
 returns : tie.Need-returns Inv-loop μ-loop
 returns c = test-marked (c .before .before .pre .0) (omega arith) (c .before .loop .inv .1)
