@@ -1,12 +1,13 @@
--- Squares that agree below L give the same: an operation on squares looks at instants below L alone.
+-- Squares that agree below L give the same. An operation on squares looks at instants below L alone: a sequence, a star
+-- and a diamond are the greatest of values there, and a box the least, so it is enough that these values agree.
 use Prim.Native.Nat.{ℕ, zero, suc, _<_, min, max}
 use mathlib.Core.Path.{_≡_, refl, ap₂, _∙_}
 use mathlib.Core.Bool.{Bool, true, false, cond}
 use lib.Dec.{eqb}
 use Rattle.meaning.specs.Three.{imp}
 use Rattle.meaning.specs.Record.{Mode, diamond, box}
-use Rattle.meaning.specs.Value.{Row, Square, diamondRow, boxRow, modalRow, choiceSquare, sequenceSquare, passes}
-use Rattle.meaning.specs.Value.{starSquare}
+use Rattle.meaning.specs.Value.{Row, Square, diamondRow, boxRow, modalRow}
+use Rattle.meaning.specs.Value.{choiceSquare, sequenceSquare, passes, starSquare}
 use Rattle.meaning.proofs.Bounds.{greatest-same, least-same}
 use Rattle.value.specs.Cells.{Holds, joinOf}
 
