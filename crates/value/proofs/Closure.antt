@@ -44,7 +44,8 @@ module _ (L : ℕ) (p : Square) where
       star-pass k q j v h l x (passes-star n q i j v l z y b)
 
   -- So the star goes on through each instant.
-  star-through : (k i j v : ℕ) → k < L → 0 < v → v ≤ starSquare L p k i → v ≤ starSquare L p i j → v ≤ starSquare L p k j
+  star-through : (k i j v : ℕ) → k < L → 0 < v → v ≤ starSquare L p k i → v ≤ starSquare L p i j
+      → v ≤ starSquare L p k j
   star-through k i j v h z a b =
       let (n, _, e) = star-attained L p k i in
       passes-star n k i j v h z (omega arith) b

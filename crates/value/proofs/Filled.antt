@@ -1,5 +1,5 @@
--- The finished table. It was cleared, and then the last record was valued: every record is under the last, so a formula's row is right;
--- a path's row is as it was cleared, 0; and what stands behind the rows is as it was at first.
+-- The finished table. It was cleared, and then the last record was valued: every record is under the last, so a
+-- formula's row is right; a path's row is as it was cleared, 0; and what stands behind the rows is as it was at first.
 use Prim.Native.Nat.{ℕ, suc, pred, _+_, _*_, _<_, _≤_}
 use mathlib.Core.Path.{_≡_, refl, sym, ap, _∙_}
 use mathlib.Core.List.{List}
@@ -12,14 +12,15 @@ use Rattle.meaning.specs.Tree.{formAt}
 use Rattle.meaning.specs.Value.{valueOf}
 use Rattle.meaning.specs.Service.{rowBy, rowOf, table}
 use Rattle.value.specs.Cells.{rowAt, Put}
-use Rattle.value.specs.Valuing.{Under, Right, Legal, Asked, Valued}
+use Rattle.value.specs.Valuing.{Under, Legal, Asked, Valued}
 use Rattle.value.proofs.Table.{row-end}
 use Rattle.value.proofs.Tabled.{rows-written}
 use Rattle.value.proofs.Reached.{all-under}
-use Rattle.value.proofs.Recursion.{row-room}
+use Rattle.value.proofs.Children.{row-room}
 
-module _ {s : List ℕ} {A L : ℕ} {cells d : List ℕ} (w : Legal s A L cells (length d)) {n r : ℕ} (number : n ≡ count s) (one : suc r ≡ n)
-    {cleared : List ℕ} (clear : Put (n * L) 0 (λ k. 0) d cleared) where
+module _ {s : List ℕ} {A L : ℕ} {cells d : List ℕ} (w : Legal s A L cells (length d))
+    {n r : ℕ} (number : n ≡ count s) (one : suc r ≡ n) {cleared : List ℕ}
+    (clear : Put (n * L) 0 (λ k. 0) d cleared) where
   -- The last record may be valued into the cleared table.
   pub last-asked : Asked s A L cells r cleared × (sortOf (kindAt s r) ≡ formula)
   last-asked =
@@ -41,14 +42,16 @@ module _ {s : List ℕ} {A L : ℕ} {cells d : List ℕ} (w : Legal s A L cells 
     unfolding rowOf rowBy
     row-right q k ql kl = go (sortOf (kindAt s q)) refl
       where
-        go : (σ : Sort) → sortOf (kindAt s q) ≡ σ → rowAt done (q * L) k ≡ rowBy (sortOf (kindAt s q)) (valueOf L (cellOf A cells) (formAt s q)) k
+        go : (σ : Sort) → sortOf (kindAt s q) ≡ σ
+            → rowAt done (q * L) k ≡ rowBy (sortOf (kindAt s q)) (valueOf L (cellOf A cells) (formAt s q)) k
         go formula e =
             let z : pred (count s) ≡ r = omega arith in
             let u : Under s r q = rw z at (all-under (w .formed) q (omega arith)) in
             rw e (v .rows q u e .values k kl)
         go path e =
             let end = row-end L ql in
-            rw e (v .steady .paths q k e kl ∙ ap (λ (i : ℕ). getD cleared i 0) (sym (zero-add (q * L + k))) ∙ clear .here (q * L + k) (omega arith))
+            let zero : getD cleared (q * L + k) 0 ≡ 0 = rw zero-add at (clear .here (q * L + k) (omega arith)) in
+            rw e (v .steady .paths q k e kl ∙ zero)
 
     pub table-written : done ≡ written (table s A L cells) d
     unfolding table

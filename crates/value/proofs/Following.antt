@@ -1,13 +1,15 @@
--- A square that is written row by row from its front, by the rule f. Writing row k changes no other row, so the rows that
--- were passed go by the rule, and those ahead are as they were.
+-- A square that is written row by row from its front, by the rule f. Writing row k changes no other row, so the rows
+-- that were passed go by the rule, and those ahead are as they were.
 use Prim.Native.Nat.{ℕ, _+_, _<_, _≤_}
 use mathlib.Core.Path.{_≡_, refl, _∙_}
 use mathlib.Core.List.{List}
+use native.Mathlib.Nat.{le-refl}
 use native.Mathlib.Omega.{arith}
 use borrow.Author.Count.{below-more}
 use lib.ListN.{length}
 use Rattle.meaning.specs.Value.{Square}
 use Rattle.value.specs.Cells.{at, Holds, Rowed}
+use Rattle.value.specs.Closing.{by, Passed}
 
 pub record Following (f : Square) (old s : List ℕ) (k : ℕ) : Type 0 where
   pub size : length s ≡ 1024
@@ -30,3 +32,13 @@ following-more {f} {g} {old} {s} {new} {k} w r e = record {
 
 pub following-done : {f : Square} {old s : List ℕ} {k l : ℕ} → Following f old s k → l ≤ k → l ≤ 32 → Holds l s f
 following-done w h b = record { size = w .size; cells = λ r j p q. w .passed r (omega arith) j (omega arith) }
+
+-- ---- a pass by way of mid
+-- Row k is made of itself, which no turn before has changed, and of a copy f of row mid from before the first turn.
+pub passing-more : {mid k : ℕ} {f : ℕ → ℕ} {old s new : List ℕ} → mid < 32 → Following (by (at old) mid) old s k
+    → ((j : ℕ) → j < 32 → f j ≡ at old mid j) → Passed k (at s k mid) f s new
+    → Following (by (at old) mid) old new (k + 1)
+unfolding by
+passing-more {mid} {k} h w copy p =
+    let own = w .ahead k (le-refl k) in
+    following-more w p (λ j l. omega (arith, own j l, own mid h, copy j l))

@@ -1,18 +1,20 @@
--- The grounds of valuing. Behind a length that is right and sizes that fit stand the grounds of the records, the cells and the room; and
--- where no ground applies, the records are a tree, the cells a trace, and the table has room.
+-- The grounds of valuing. Behind a length that is right and sizes that fit stand the grounds of the records, the cells
+-- and the room; and where no ground applies, the records are a tree, the cells a trace, and the table has room.
 use Prim.Native.Nat.{ℕ, _*_, _<_, _≤_}
-use mathlib.Core.Path.{_≡_, refl, sym, ap, _∙_}
-use mathlib.Core.Bool.{Bool, true, false}
+use mathlib.Core.Path.{_≡_, refl, sym, _∙_}
+use mathlib.Core.Bool.{true, false}
 use mathlib.Core.List.{List, [], _∷_, _++_}
 use mathlib.Core.Logic.{⊎-elim}
 use native.Mathlib.Omega.{arith}
 use lib.ListN.{length, getD, List·getD-eq-default}
 use borrow.Author.Tests.{lt-ltb, le-ltb, ltb-false}
 use Rattle.meaning.specs.Record.{count}
-use Rattle.meaning.specs.Refusal.{Ground, firstOf, ground1, ground8, ground8-cells, grounds9, ground10, treeGrounds, valueGrounds, mostAtoms}
+use Rattle.meaning.specs.Refusal.{Ground, firstOf, ground1, ground8, ground8-cells, grounds9, ground10}
+use Rattle.meaning.specs.Refusal.{treeGrounds, valueGrounds, mostAtoms}
 use Rattle.meaning.proofs.Bounds.{le-or-lt}
 use Rattle.meaning.proofs.Fails.{tests}
-use Rattle.meaning.proofs.First.{Clear, Numbered, none-clear, clear-append, clear-each, clear-skip, found-stop, numbered-append, numbered-each, stop, pass}
+use Rattle.meaning.proofs.First.{Clear, Numbered, none-clear, clear-append, clear-each, clear-skip, found-stop}
+use Rattle.meaning.proofs.First.{numbered-append, numbered-each, stop, pass}
 use Rattle.meaning.proofs.Accepted.{clear-well-formed, tree-numbered}
 use Rattle.value.specs.Valuing.{Legal}
 
@@ -44,9 +46,14 @@ module _ (s : List ℕ) (A L : ℕ) (cells : List ℕ) (room : ℕ) where
 
   all-numbered : Numbered (valueGrounds s A L cells room)
   unfolding valueGrounds ground1 ground8-cells ground10
-  all-numbered =
-      (omega arith, (omega arith, numbered-append (treeGrounds false s A) (grounds9 cells ++ last) (tree-numbered false s A)
-      (numbered-append (grounds9 cells) last (cells-numbered cells) (omega arith, tt))))
+  all-numbered = (
+    omega arith,
+    (
+      omega arith,
+      numbered-append (treeGrounds false s A) (grounds9 cells ++ last) (tree-numbered false s A)
+          (numbered-append (grounds9 cells) last (cells-numbered cells) (omega arith, tt)),
+    ),
+  )
 
   -- What no ground shuts out.
   pub legal : all ≡ 0 → Legal s A L cells room

@@ -1,14 +1,13 @@
--- A row of a sequence that is raised by one instant a turn: after i turns its values are by way of the instants below i.
--- One instant more gives the greater of what was and the smaller of the value to that instant and the value from it.
-use Prim.Native.Nat.{ℕ, zero, suc, _+_, _<_}
+-- A row of a sequence that is raised by one instant a turn: after i turns its values are by way of the instants below
+-- i. One instant more gives the greater of what was and the smaller of the value to that instant and the value from it.
+use Prim.Native.Nat.{ℕ, _+_, _<_}
 use mathlib.Core.Path.{_≡_, refl, _∙_}
 use mathlib.Core.List.{List}
 use native.Mathlib.Nat.{min-comm}
-use native.Mathlib.Numerals.{add-one}
-use native.Mathlib.Omega.{arith}
 use lib.ListN.{length, getD, replicate, getD-replicate}
 use Rattle.meaning.specs.Three.{greatest}
 use Rattle.meaning.specs.Value.{Square, sequenceSquare}
+use Rattle.meaning.proofs.Bounds.{greatest-more}
 use Rattle.value.specs.Cells.{Raised}
 
 pub record Leading (p q : Square) (k : ℕ) (row : List ℕ) (i : ℕ) : Type 0 where
@@ -19,21 +18,10 @@ pub leading-none : {p q : Square} {k : ℕ} → Leading p q k (replicate 32 0) 0
 unfolding sequenceSquare greatest
 leading-none = record { size = refl; cells = λ j h. getD-replicate 32 j 0 0 h }
 
-pub leading-more : {p q : Square} {k : ℕ} {row new : List ℕ} {i : ℕ} → Leading p q k row i → Raised (q i) (p k i) row new
-    → Leading p q k new (i + 1)
-unfolding sequenceSquare greatest
+pub leading-more : {p q : Square} {k : ℕ} {row new : List ℕ} {i : ℕ} → Leading p q k row i
+    → Raised (q i) (p k i) row new → Leading p q k new (i + 1)
+unfolding sequenceSquare
 leading-more {p} {q} {k} {row} {new} {i} w r = record {
   size = r .size;
-  cells = λ j h. r .cells j h ∙ rw (add-one i, w .cells j h, min-comm (q i j) (p k i));
+  cells = λ j h. r .cells j h ∙ rw (greatest-more i, w .cells j h, min-comm (q i j) (p k i));
 }
-
-greatest-same : (n : ℕ) (f g : ℕ → ℕ) → ((i : ℕ) → i < n → f i ≡ g i) → greatest n f ≡ greatest n g
-unfolding greatest
-greatest-same zero f g e = refl
-greatest-same (suc n) f g e = rw (greatest-same n f g (λ i h. e i (omega arith)), e n (omega arith))
-
--- A row of a sequence looks at that row alone of its first square, and there at the instants below l.
-pub sequence-same : (l : ℕ) (p p' q : Square) (k j : ℕ) → ((i : ℕ) → i < l → p k i ≡ p' k i)
-    → sequenceSquare l p q k j ≡ sequenceSquare l p' q k j
-unfolding sequenceSquare
-sequence-same l p p' q k j same = greatest-same l _ _ (λ i h. rw (same i h))

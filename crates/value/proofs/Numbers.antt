@@ -1,13 +1,14 @@
--- The kinds behind the numbers 0 to 10: the code asks for a number, the definitions for a kind. Records that passed the check have
--- these numbers alone, 0 to 4 where they are formulas and 5 to 10 where they are paths.
-use Prim.Native.Nat.{ℕ, zero, suc, _+_, _*_, _<_, _≤_}
+-- The kinds behind the numbers 0 to 10: the code asks for a number, the definitions for a kind. Records that passed the
+-- check have these numbers alone, 0 to 4 where they are formulas and 5 to 10 where they are paths.
+use Prim.Native.Nat.{ℕ, zero, suc, _+_, _<_, _≤_}
 use mathlib.Core.Path.{_≡_, refl, sym, _∙_}
-use mathlib.Core.Bool.{Bool, true, false, cond, true≢false}
+use mathlib.Core.Bool.{true, false, cond, true≢false}
 use mathlib.Core.List.{List}
 use mathlib.Core.Logic.{_⊎_, inl, inr}
 use native.Mathlib.Omega.{arith}
 use lib.Dec.{eqb}
-use Rattle.meaning.specs.Record.{Kind, constant, atom, modal, move, test, choice, sequence, star, kinds, kindOf, kindAt, kindByte, count, known, Sort, formula, path, sortOf}
+use Rattle.meaning.specs.Record.{constant, atom, modal, move, test, choice, sequence, star, kinds, kindOf, kindAt}
+use Rattle.meaning.specs.Record.{kindByte, count, known, Sort, formula, path, sortOf}
 use Rattle.meaning.specs.WellFormed.{WellFormed}
 use Rattle.meaning.proofs.Bounds.{le-or-lt}
 use Rattle.records.proofs.Kind.{stretch, onward}
@@ -55,19 +56,26 @@ star-kind = refl
 -- ---- the numbers of records
 core-number : (n : ℕ) → known false (kindOf n) ≡ true → n < 11
 unfolding known kinds
-core-number n h = elim (le-or-lt 11 n) [ inl l ↦ absurd (true≢false (sym h ∙ sym (onward (known false) 11 37 refl n l))) | inr l ↦ l ]
+core-number n h =
+    elim (le-or-lt 11 n)
+    [ inl l ↦ absurd (true≢false (sym h ∙ sym (onward (known false) 11 37 refl n l))) | inr l ↦ l ]
 
 pub differs : {σ : Sort} → σ ≡ formula → σ ≡ path → ⊥
 differs e d = let z : _≡_ {A = ℕ} 0 1 = cc in omega arith
 
-pub formula-number : {s : List ℕ} {A : ℕ} → WellFormed false s A → (r : ℕ) → r < count s → sortOf (kindAt s r) ≡ formula → kindByte s r < 5
+pub formula-number : {s : List ℕ} {A : ℕ} → WellFormed false s A → (r : ℕ) → r < count s → sortOf (kindAt s r) ≡ formula
+    → kindByte s r < 5
 unfolding sortOf kinds
 formula-number {s} w r l e =
     let n = kindByte s r in
-    elim (le-or-lt 5 n) [ inl h ↦ absurd (differs e (sym (stretch sortOf path 5 6 refl n h (core-number n (w .kinds r l))))) | inr h ↦ h ]
+    let core = core-number n (w .kinds r l) in
+    elim (le-or-lt 5 n) [ inl h ↦ absurd (differs e (sym (stretch sortOf path 5 6 refl n h core))) | inr h ↦ h ]
 
-pub path-number : {s : List ℕ} {A : ℕ} → WellFormed false s A → (r : ℕ) → r < count s → sortOf (kindAt s r) ≡ path → (5 ≤ kindByte s r) × (kindByte s r < 11)
+pub path-number : {s : List ℕ} {A : ℕ} → WellFormed false s A → (r : ℕ) → r < count s → sortOf (kindAt s r) ≡ path
+    → (5 ≤ kindByte s r) × (kindByte s r < 11)
 unfolding sortOf kinds
 path-number {s} w r l e =
     let n = kindByte s r in
-    (elim (le-or-lt 5 n) [ inl h ↦ h | inr h ↦ absurd (differs (sym (stretch sortOf formula 0 5 refl n (omega arith) h)) e) ], core-number n (w .kinds r l))
+    let low : 5 ≤ n = elim (le-or-lt 5 n)
+    [ inl h ↦ h | inr h ↦ absurd (differs (sym (stretch sortOf formula 0 5 refl n (omega arith) h)) e) ] in
+    (low, core-number n (w .kinds r l))

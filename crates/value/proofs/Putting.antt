@@ -1,48 +1,45 @@
--- A row of the table that is written from its front, one store a turn. The store at start + k changes that place alone,
--- so the cells that were passed go by the rule f, and all other places are as they were. A row that ends at or before
--- `start` is among those, so what a modality makes of it is the same before and after each turn.
-use Prim.Native.Nat.{ℕ, _+_, _<_, _≤_}
+-- Rows that are written from their front. The places of a row stand side by side, so a place before or behind the row,
+-- or in another row of a square, is none of them and is as it was. What a modality makes of an earlier row of the table
+-- is then the same before and after each turn.
+use Prim.Native.Nat.{ℕ, _+_, _*_, _<_, _≤_}
 use mathlib.Core.Path.{_≡_, refl, _∙_}
 use mathlib.Core.List.{List}
 use native.Mathlib.Omega.{arith}
-use borrow.Author.Count.{below-more}
-use lib.ListN.{length, set, length-set}
-use lib.Seq.{getD-set-same, getD-set-other}
-use Rattle.meaning.specs.Record.{Mode, diamond, box}
-use Rattle.meaning.specs.Value.{Square, diamondRow, boxRow, modalRow}
-use Rattle.meaning.proofs.Bounds.{greatest-same, least-same}
-use Rattle.value.specs.Cells.{rowAt, Put}
+use lib.ListN.{length, set}
+use Rattle.meaning.specs.Record.{Mode}
+use Rattle.meaning.specs.Value.{Square, modalRow}
+use Rattle.value.specs.Cells.{rowAt, Put, Rowed}
+use Rattle.value.proofs.Stored.{Stored, stored-more}
+use Rattle.value.proofs.Same.{modal-same}
 
-pub put-none : {start : ℕ} {f : ℕ → ℕ} {t : List ℕ} → Put 0 start f t t
-put-none = record { size = refl; before = λ i h. refl; here = λ k h. absurd (omega arith); after = λ i h. refl }
+-- The first n places from `start` on are written.
+abbrev pub Along : ℕ → (ℕ → ℕ) → List ℕ → List ℕ → ℕ → Type 0
+Along start = Stored (λ i. start + i)
 
-pub put-more : {k start v : ℕ} {f : ℕ → ℕ} {old t : List ℕ} → Put k start f old t → start + k < length old → v ≡ f k
-    → Put (k + 1) start f old (set t (start + k) v)
-put-more {k} {start} {v} {f} {old} {t} w h e =
-    let in-t : start + k < length t = omega arith in
-    record {
-      size = length-set t (start + k) v ∙ w .size;
-      before = λ i l. getD-set-other t (start + k) i v 0 (λ z. omega arith) ∙ w .before i l;
-      here =
-          below-more (λ (i : ℕ). rowAt (set t (start + k) v) start i ≡ f i) k
-          (λ i l. getD-set-other t (start + k) (start + i) v 0 (λ z. omega arith) ∙ w .here i l)
-          (getD-set-same t (start + k) v 0 in-t ∙ e);
-      after = λ i l. getD-set-other t (start + k) i v 0 (λ z. omega arith) ∙ w .after i (omega arith);
-    }
+-- A row of the table.
+pub along-put : {start n l : ℕ} {f : ℕ → ℕ} {old t : List ℕ} → Along start f old t n → n ≡ l → Put l start f old t
+along-put w e = rw (← e) (record {
+  size = w .size;
+  before = λ i h. w .off i (λ k l z. omega arith);
+  here = w .on;
+  after = λ i h. w .off i (λ k l z. omega arith);
+})
 
-pub put-done : {k l start : ℕ} {f : ℕ → ℕ} {old t : List ℕ} → Put k start f old t → k ≡ l → Put l start f old t
-put-done w e = rw (← e) w
+-- A row of a square.
+pub along-rowed : {k n : ℕ} {f : ℕ → ℕ} {old s : List ℕ} → length old ≡ 1024 → Along (k * 32) f old s n → n ≡ 32
+    → Rowed k f old s
+along-rowed size w e = record {
+  size = w .size ∙ size;
+  row = λ j h. w .on j (omega arith);
+  others = λ q j d h. w .off (q * 32 + j) (λ i l z. d (omega arith));
+}
 
--- ---- a modality over an earlier row
-modal-kept : {k start : ℕ} {f : ℕ → ℕ} {old t : List ℕ} (m : Mode) (L from : ℕ) (p : Square) (i : ℕ)
-    → Put k start f old t → from + L ≤ start
-    → modalRow m L p (rowAt t from) i ≡ modalRow m L p (rowAt old from) i
-unfolding modalRow diamondRow boxRow
-modal-kept diamond L from p i w h = greatest-same L _ _ (λ j l. rw (w .before (from + j) (omega arith)))
-modal-kept box L from p i w h = least-same L _ _ (λ j l. rw (w .before (from + j) (omega arith)))
-
-pub put-modal-more : {k start v : ℕ} {old t : List ℕ} (m : Mode) (L from : ℕ) (p : Square)
-    → Put k start (modalRow m L p (rowAt old from)) old t → start + k < length old → from + L ≤ start
-    → v ≡ modalRow m L p (rowAt t from) k
-    → Put (k + 1) start (modalRow m L p (rowAt old from)) old (set t (start + k) v)
-put-modal-more m L from p w h ends e = put-more w h (e ∙ modal-kept m L from p _ w ends)
+-- The next value of a modality over a row that ends at or before `start`.
+pub along-modal : {n v : ℕ} {old t : List ℕ} (m : Mode) (L from start : ℕ) (p : Square)
+    → Along start (modalRow m L p (rowAt old from)) old t n → start + n < length old → from + L ≤ start
+    → v ≡ modalRow m L p (rowAt t from) n
+    → Along start (modalRow m L p (rowAt old from)) old (set t (start + n) v) (n + 1)
+along-modal {n} {v} {old} {t} m L from start p w h ends e =
+    let same = modal-same L m p p (rowAt t from) (rowAt old from) n (λ j l. refl)
+    (λ j l. w .off (from + j) (λ i k z. omega arith)) in
+    stored-more w refl h (e ∙ same) (λ i l. omega arith)

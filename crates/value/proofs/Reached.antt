@@ -1,8 +1,8 @@
--- Every record is under the last one. A record before the last is the child of one place, so it has a parent, which is later; going from
--- parent to parent one comes to the last record, and the way back goes down the tree.
+-- Every record is under the last one. A record before the last is the child of one place, so it has a parent, which is
+-- later; going from parent to parent one comes to the last record, and the way back goes down the tree.
 use Prim.Native.Nat.{ℕ, zero, suc, pred, _+_, _<_, _≤_}
-use mathlib.Core.Path.{_≡_, refl, sym, _∙_}
-use mathlib.Core.Bool.{Bool, true, false, cond}
+use mathlib.Core.Path.{_≡_, refl}
+use mathlib.Core.Bool.{Bool, cond}
 use mathlib.Core.List.{List}
 use mathlib.Core.Logic.{_⊎_, inl, inr}
 use native.Mathlib.Decide.{ℕ-discrete}
@@ -38,7 +38,8 @@ unfolding placesIn
 parent-of s q zero h = absurd (omega arith)
 parent-of s q (suc m) h = go (le-or-lt 1 (uses s q m)) (parent-of s q m)
   where
-    go : (1 ≤ uses s q m) ⊎ (uses s q m < 1) → (0 < placesIn s q m → (p : ℕ) × (p < m) × (0 < uses s q p)) → (p : ℕ) × (p < suc m) × (0 < uses s q p)
+    go : (1 ≤ uses s q m) ⊎ (uses s q m < 1) → (0 < placesIn s q m → (p : ℕ) × (p < m) × (0 < uses s q p))
+        → (p : ℕ) × (p < suc m) × (0 < uses s q p)
     go (inl u) _ = (m, le-refl _, u)
     go (inr u) f = let (p, l, v) = f (omega arith) in (p, omega arith, v)
 
@@ -48,7 +49,8 @@ module _ {full : Bool} {s : List ℕ} {A : ℕ} (w : WellFormed full s A) where
   unfolding uses
   parent-under q p l u = go (le-or-lt 1 (names (useA (kindAt s p)) (fieldA s p) q))
     where
-      go : (1 ≤ names (useA (kindAt s p)) (fieldA s p) q) ⊎ (names (useA (kindAt s p)) (fieldA s p) q < 1) → (q < p) × Under s p q
+      go : (1 ≤ names (useA (kindAt s p)) (fieldA s p) q) ⊎ (names (useA (kindAt s p)) (fieldA s p) q < 1)
+          → (q < p) × Under s p q
       go (inl n) =
           let (σ, e, f) = names-child _ _ q n in
           let fits = rw e at (w .first p l) in
@@ -63,7 +65,8 @@ module _ {full : Bool} {s : List ℕ} {A : ℕ} (w : WellFormed full s A) where
   climb zero q l h = absurd (omega arith)
   climb (suc m) q l h = go (le-or-lt (count s) (suc q)) (climb m)
     where
-      go : (count s ≤ suc q) ⊎ (suc q < count s) → ((p : ℕ) → p < count s → count s ≤ p + m → Under s (pred (count s)) p) → Under s (pred (count s)) q
+      go : (count s ≤ suc q) ⊎ (suc q < count s)
+          → ((p : ℕ) → p < count s → count s ≤ p + m → Under s (pred (count s)) p) → Under s (pred (count s)) q
       go (inl e) _ = let z : pred (count s) ≡ q = omega arith in rw z itself
       go (inr o) f =
           let (p, pl, u) = parent-of s q (count s) (omega (arith, w .once q o)) in

@@ -1,15 +1,15 @@
--- The table while records are valued. A row that is written is the row of one formula, and rows do not overlap: so right rows stay
--- right, rows of paths stay as they were, and what is done for an earlier record leaves everything behind a later one's row.
+-- The table while records are valued. A row that is written is the row of one formula, and rows do not overlap: so
+-- right rows stay right, rows of paths stay as they were, and what is done for an earlier record leaves everything
+-- behind a later one's row.
 use Prim.Native.Nat.{ℕ, _+_, _*_, _<_, _≤_}
-use mathlib.Core.Path.{_≡_, refl, sym, _∙_}
-use mathlib.Core.Logic.{_⊎_, ⊎-elim}
+use mathlib.Core.Path.{_≡_, refl, _∙_}
+use mathlib.Core.Logic.{⊎-elim}
 use mathlib.Core.List.{List}
 use native.Mathlib.Decide.{ℕ-discrete}
 use native.Mathlib.Nat.{mul-le-mul-right, suc-mul}
 use native.Mathlib.Omega.{arith}
-use lib.ListN.{getD}
 use Rattle.meaning.specs.Run.{cellOf}
-use Rattle.meaning.specs.Record.{kindAt, fieldA, fieldB, Sort, formula, path, sortOf, child, useA, useB}
+use Rattle.meaning.specs.Record.{kindAt, fieldA, fieldB, Sort, formula, sortOf, child, useA, useB}
 use Rattle.meaning.specs.Tree.{formAt}
 use Rattle.meaning.specs.Value.{valueOf}
 use Rattle.meaning.proofs.Bounds.{le-or-lt}
@@ -48,7 +48,8 @@ module _ {s : List ℕ} {A L : ℕ} {cells : List ℕ} where
       let e = row-end L h in
       record { size = w .size; right = w .right; paths = w .paths; after = λ i l. w .after i (omega arith) }
 
-  pub steady-then : {r : ℕ} {old mid new : List ℕ} → Steady s A L cells r old mid → Steady s A L cells r mid new → Steady s A L cells r old new
+  pub steady-then : {r : ℕ} {old mid new : List ℕ} → Steady s A L cells r old mid → Steady s A L cells r mid new
+      → Steady s A L cells r old new
   steady-then v w = record {
     size = w .size ∙ v .size;
     right = λ q h. w .right q (v .right q h);

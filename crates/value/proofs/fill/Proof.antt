@@ -1,6 +1,6 @@
 -- `fill` meets its contract: the table is cleared, the last record is valued, and with it all records.
 use Prim.Native.Nat.{ℕ, suc, _-_, _*_}
-use mathlib.Core.Path.{_≡_, sym, ap, _∙_}
+use mathlib.Core.Path.{_≡_, ap}
 use native.Mathlib.Omega.{arith}
 use borrow.Author.Needs.{needs}
 use Rattle.meaning.specs.Record.{count}
@@ -13,7 +13,10 @@ abbrev start : tie.After-row-start → tie.Start
 start c = c .before .before .before .before .before .before
 
 abbrev At : tie.After-row-start → Type 0
-At c = let n = c .before .before .record-count .result in (n ≡ count (start c .args .records .now)) × (suc (n - 1) ≡ n) × (c .row-start .result ≡ n * start c .args .l)
+At c =
+    let n = c .before .before .record-count .result in
+    let a = start c .args in
+    (n ≡ count (a .records .now)) × (suc (n - 1) ≡ n) × (c .row-start .result ≡ n * a .l)
 
 at : (c : tie.After-row-start) → At c
 at c =
@@ -70,7 +73,8 @@ returns c =
     let (number, one, end) = at row in
     let clear = rw end at (cleared .put-constant .ensures) in
     let v = c .before .before .before .before .value-formula .ensures in
-    (first-value (start row .pre) number one clear v _ (c .before .row-start2 .ensures), table-written (start row .pre) number one clear v)
+    let w = start row .pre in
+    (first-value w number one clear v _ (c .before .row-start2 .ensures), table-written w number one clear v)
 
 pub fill-spec : {M : Type 1} → statement M
 fill-spec =

@@ -1,11 +1,13 @@
--- `first_refusal` meets its contract: each test is the next ground of the list, and each `return` gives the first that applies.
+-- `first_refusal` meets its contract: each test is the next ground of the list, and each `return` gives the first that
+-- applies.
 use mathlib.Core.Path.{_≡_, sym, _∙_}
 use mathlib.Core.Bool.{false}
 use native.Mathlib.Omega.{arith}
 use borrow.Author.Needs.{needs}
 use Rattle.meaning.specs.Refusal.{ground1, ground8-cells, mostAtoms, firstOf, treeGrounds, grounds9}
 use Rattle.meaning.proofs.Accepted.{ground1-fails}
-use Rattle.value.proofs.Grounds.{size-fits, refused-1, refused-8, refused-tree, refused-cells, refused-room, not-refused}
+use Rattle.value.proofs.Grounds.{size-fits, refused-1, refused-8, refused-tree, refused-cells, refused-room}
+use Rattle.value.proofs.Grounds.{not-refused}
 use Rattle.value.proofs.first_refusal.Statement.{statement}
 use Rattle.value.proofs.first_refusal.Tie as tie
 
@@ -17,14 +19,17 @@ right : (c : tie.Else1) → ground1 (start c .args .records .now) .applies ≡ f
 right c = sym (c .before .wrong-length .ensures) ∙ c .if1 .left
 
 fits : (c : tie.Else2)
-    → let a = start (c .before .before) .args in ground8-cells mostAtoms (a .atoms) (a .instants) (a .cells .now) .applies ≡ false
+    → let a = start (c .before .before) .args in
+    ground8-cells mostAtoms (a .atoms) (a .instants) (a .cells .now) .applies ≡ false
 fits c = sym (c .before .wrong-size .ensures) ∙ c .if2 .left
 
 tree : (c : tie.Else3)
-    → let a = start (c .before .before .before .before) .args in firstOf (treeGrounds false (a .records .now) (a .atoms)) ≡ 0
+    → let a = start (c .before .before .before .before) .args in
+    firstOf (treeGrounds false (a .records .now) (a .atoms)) ≡ 0
 tree c = sym (c .before .tree-refusal .ensures) ∙ c .if3 .left
 
-low : (c : tie.Else4) → firstOf (grounds9 (start (c .before .before .before .before .before .before) .args .cells .now)) ≡ 0
+low : (c : tie.Else4)
+    → firstOf (grounds9 (start (c .before .before .before .before .before .before) .args .cells .now)) ≡ 0
 low c = sym (c .before .cells-refusal .ensures) ∙ c .if4 .left
 
 -- ---- the calls and the returns
@@ -55,7 +60,8 @@ returns-4 : tie.Need-returns-4
 returns-4 c =
     let three = c .before .before in
     let two = three .before .before in
-    refused-cells _ _ _ _ _ (right (two .before .before)) (fits two) (tree three) (c .before .cells-refusal .ensures) (c .if4 .taken)
+    refused-cells _ _ _ _ _ (right (two .before .before)) (fits two) (tree three)
+    (c .before .cells-refusal .ensures) (c .if4 .taken)
 
 record-count-requires : tie.Need-record-count-requires
 record-count-requires c κs = search needs

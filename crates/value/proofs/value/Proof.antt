@@ -1,5 +1,5 @@
 -- `value` meets its contract: a refusal is the answer and leaves the table; otherwise the table is filled.
-use mathlib.Core.Path.{_≡_, sym, _∙_}
+use mathlib.Core.Path.{sym, _∙_}
 use borrow.Author.Needs.{needs}
 use borrow.Author.Tests.{eq-eqb, ne-eqb}
 use Rattle.meaning.specs.Service.{valueAnswer, valueAfter}

@@ -1,19 +1,19 @@
 -- `row::put_atom` meets its contract: the first k cells of the row are the atom's, and `at` is the place of its next.
 use Prim.Native.Nat.{_+_, _*_, _-_, _≤_}
-use mathlib.Core.Path.{_≡_}
+use mathlib.Core.Path.{_≡_, refl}
 use native.Mathlib.Nat.{mul-suc, mul-le-mul-left}
 use native.Mathlib.Numerals.{add-one}
 use native.Mathlib.Omega.{arith}
 use borrow.Author.Needs.{needs}
 use Rattle.meaning.specs.Run.{cellOf}
-use Rattle.value.specs.Cells.{Put}
-use Rattle.value.proofs.Putting.{put-none, put-more, put-done}
+use Rattle.value.proofs.Stored.{stored-none, stored-more}
+use Rattle.value.proofs.Putting.{Along, along-put}
 use Rattle.value.proofs.row.put_atom.Statement.{statement}
 use Rattle.value.proofs.row.put_atom.Tie as tie
 
 abbrev Inv-loop : tie.InvT-loop
 Inv-loop table₀ start l cells atoms i k₀ at₀ table k at =
-    (k ≤ l) × (at ≡ atoms * k + i) × Put k start (λ j. cellOf atoms cells j i) table₀ table
+    (k ≤ l) × (at ≡ atoms * k + i) × Along start (λ j. cellOf atoms cells j i) table₀ table k
 
 abbrev μ-loop : tie.MeasureT-loop
 μ-loop table₀ start l cells atoms i k₀ at₀ table k at = l - k
@@ -24,7 +24,7 @@ cells-within : (c : tie.In-loop Inv-loop μ-loop)
 cells-within c = rw mul-suc at (mul-le-mul-left (c .before .before .args .atoms) (c .loop-test .taken))
 
 loop-holds : tie.Need-loop-holds Inv-loop μ-loop
-loop-holds c = (search needs, omega arith, put-none)
+loop-holds c = (search needs, omega arith, stored-none)
 
 shared-slice-read-table : tie.Need-shared-slice-read-table Inv-loop μ-loop
 shared-slice-read-table c = omega (arith, cells-within (c .before))
@@ -49,14 +49,14 @@ loop-again c =
     let turn = c .before .before .loop in (
       omega arith,
       rw (add-one, mul-suc) (omega arith),
-      put-more (turn .inv .2) (omega arith) (rw (turn .inv .1)),
+      stored-more (turn .inv .2) refl (omega arith) (rw (turn .inv .1)) (λ i h. omega arith),
     )
 
 same-length : tie.Need-same-length Inv-loop μ-loop
 same-length c = search needs
 
 returns : tie.Need-returns Inv-loop μ-loop
-returns c = put-done (c .before .loop .inv .2) (omega arith)
+returns c = along-put (c .before .loop .inv .2) (omega arith)
 
 pub put-atom-spec : {M : Type 1} → statement M
 put-atom-spec =

@@ -3,19 +3,19 @@ use Prim.Native.Nat.{_-_, _≤_}
 use mathlib.Core.Path.{refl}
 use native.Mathlib.Omega.{arith}
 use borrow.Author.Needs.{needs}
-use Rattle.value.specs.Cells.{Put}
-use Rattle.value.proofs.Putting.{put-none, put-more, put-done}
+use Rattle.value.proofs.Stored.{stored-none, stored-more}
+use Rattle.value.proofs.Putting.{Along, along-put}
 use Rattle.value.proofs.row.put_constant.Statement.{statement}
 use Rattle.value.proofs.row.put_constant.Tie as tie
 
 abbrev Inv-loop : tie.InvT-loop
-Inv-loop table₀ start l v k₀ table k = (k ≤ l) × Put k start (λ i. v) table₀ table
+Inv-loop table₀ start l v k₀ table k = (k ≤ l) × Along start (λ i. v) table₀ table k
 
 abbrev μ-loop : tie.MeasureT-loop
 μ-loop table₀ start l v k₀ table k = l - k
 
 loop-holds : tie.Need-loop-holds Inv-loop μ-loop
-loop-holds c = (search needs, put-none)
+loop-holds c = (search needs, stored-none)
 
 add-table : tie.Need-add-table Inv-loop μ-loop
 add-table c = search needs
@@ -30,13 +30,13 @@ loop-less : tie.Need-loop-less Inv-loop μ-loop
 loop-less c = search needs
 
 loop-again : tie.Need-loop-again Inv-loop μ-loop
-loop-again c = (omega arith, put-more (c .before .loop .inv .1) (omega arith) refl)
+loop-again c = (omega arith, stored-more (c .before .loop .inv .1) refl (omega arith) refl (λ i h. omega arith))
 
 same-length : tie.Need-same-length Inv-loop μ-loop
 same-length c = search needs
 
 returns : tie.Need-returns Inv-loop μ-loop
-returns c = put-done (c .before .loop .inv .1) (omega arith)
+returns c = along-put (c .before .loop .inv .1) (omega arith)
 
 pub put-constant-spec : {M : Type 1} → statement M
 put-constant-spec =

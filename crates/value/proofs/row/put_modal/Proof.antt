@@ -3,20 +3,21 @@ use Prim.Native.Nat.{_-_, _≤_}
 use native.Mathlib.Omega.{arith}
 use borrow.Author.Needs.{needs}
 use Rattle.meaning.specs.Value.{modalRow}
-use Rattle.value.specs.Cells.{at, rowAt, Put, modeOf}
-use Rattle.value.proofs.Putting.{put-none, put-modal-more, put-done}
+use Rattle.value.specs.Cells.{at, rowAt, modeOf}
+use Rattle.value.proofs.Stored.{stored-none}
+use Rattle.value.proofs.Putting.{Along, along-modal, along-put}
 use Rattle.value.proofs.row.put_modal.Statement.{statement}
 use Rattle.value.proofs.row.put_modal.Tie as tie
 
 abbrev Inv-loop : tie.InvT-loop
 Inv-loop kind s table₀ from start l k₀ table k =
-    (k ≤ l) × Put k start (modalRow (modeOf kind) l (at s) (rowAt table₀ from)) table₀ table
+    (k ≤ l) × Along start (modalRow (modeOf kind) l (at s) (rowAt table₀ from)) table₀ table k
 
 abbrev μ-loop : tie.MeasureT-loop
 μ-loop kind s table₀ from start l k₀ table k = l - k
 
 loop-holds : tie.Need-loop-holds Inv-loop μ-loop
-loop-holds c = (search needs, put-none)
+loop-holds c = (search needs, stored-none)
 
 modal-cell-requires : tie.Need-modal-cell-requires Inv-loop μ-loop
 modal-cell-requires c κs = search needs
@@ -36,14 +37,14 @@ loop-less c = search needs
 loop-again : tie.Need-loop-again Inv-loop μ-loop
 loop-again c = (
   omega arith,
-  put-modal-more _ _ _ _ (c .before .before .before .loop .inv .1) (omega arith) (omega arith) (c .modal-cell .ensures),
+  along-modal _ _ _ _ _ (c .before .before .before .loop .inv .1) (omega arith) (omega arith) (c .modal-cell .ensures),
 )
 
 same-length : tie.Need-same-length Inv-loop μ-loop
 same-length c = search needs
 
 returns : tie.Need-returns Inv-loop μ-loop
-returns c = put-done (c .before .loop .inv .1) (omega arith)
+returns c = along-put (c .before .loop .inv .1) (omega arith)
 
 pub put-modal-spec : {M : Type 1} → statement M
 put-modal-spec =

@@ -1,10 +1,10 @@
 -- `follow` meets its contract: each turn makes one more row of the sequence, from a row that is as it was.
 use Prim.Native.Nat.{_-_}
-use mathlib.Core.Path.{_∙_}
+use mathlib.Core.Path.{refl, _∙_}
 use Rattle.meaning.specs.Value.{sequenceSquare}
 use Rattle.value.specs.Cells.{at}
 use Rattle.value.proofs.Following.{Following, following-none, following-more, following-done}
-use Rattle.value.proofs.Leading.{sequence-same}
+use Rattle.value.proofs.Same.{sequence-same}
 use native.Mathlib.Omega.{arith}
 use borrow.Author.Needs.{needs}
 use Rattle.value.proofs.square.follow.Statement.{statement}
@@ -38,8 +38,8 @@ loop-again c =
     following-more (w .inv) (c .put-row .ensures)
     (λ j h.
     c .before .before .before .led-row .ensures j h
-    ∙ sequence-same (a .l) (at (w .s)) (at (a .s .now)) (at (a .q .now)) (w .k) j
-    (λ i m. w .inv .ahead (w .k) (omega arith) i (omega arith)))
+    ∙ sequence-same (a .l) (at (w .s)) (at (a .s .now)) (at (a .q .now)) (at (a .q .now)) (w .k) j
+    (λ i m. w .inv .ahead (w .k) (omega arith) i (omega arith)) (λ i m. refl))
 
 returns : tie.Need-returns Inv-loop μ-loop
 returns c = following-done (c .before .loop .inv) (omega arith) (c .before .before .pre .0)

@@ -1,14 +1,15 @@
 -- `move_square` meets its contract: each turn marks the next place of the diagonal of the kind.
 use Prim.Native.Nat.{_≤_, _-_}
 use mathlib.Core.Path.{refl}
-use Rattle.value.proofs.Diagonal.{Marked, marked-none, diagonal-more, move-marked, next-bound}
+use Rattle.value.proofs.Stored.{stored-none, stored-more}
+use Rattle.value.proofs.Diagonal.{Diagonal, move-marked, next-bound}
 use native.Mathlib.Omega.{arith}
 use borrow.Author.Needs.{needs}
 use Rattle.value.proofs.square.move_square.Statement.{statement}
 use Rattle.value.proofs.square.move_square.Tie as tie
 
 abbrev Inv-loop : tie.InvT-loop
-Inv-loop kind l d s₀ k₀ s k = (d ≤ 32) × (k ≤ 31) × Marked d (λ i. 2) s k
+Inv-loop kind l d s₀ k₀ s k = (d ≤ 32) × (k ≤ 31) × Diagonal d (λ i. 2) s₀ s k
 
 abbrev μ-loop : tie.MeasureT-loop
 μ-loop kind l d s₀ k₀ s k = l - k
@@ -17,7 +18,7 @@ next-cell-requires : tie.Need-next-cell-requires Inv-loop μ-loop
 next-cell-requires c κs = search needs
 
 loop-holds : tie.Need-loop-holds Inv-loop μ-loop
-loop-holds c = (omega (arith, next-bound (c .before .args .kind)), omega arith, marked-none)
+loop-holds c = (omega (arith, next-bound (c .before .args .kind)), omega arith, stored-none)
 
 add-loop : tie.Need-add-loop Inv-loop μ-loop
 add-loop c = search needs
@@ -38,7 +39,8 @@ loop-less : tie.Need-loop-less Inv-loop μ-loop
 loop-less c = search needs
 
 loop-again : tie.Need-loop-again Inv-loop μ-loop
-loop-again c = (omega arith, omega arith, diagonal-more (c .before .loop .inv .2) (omega arith) refl refl)
+loop-again c =
+    (omega arith, omega arith, stored-more (c .before .loop .inv .2) refl (omega arith) refl (λ i h. omega arith))
 
 returns : tie.Need-returns Inv-loop μ-loop
 returns c =

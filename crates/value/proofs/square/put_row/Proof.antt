@@ -1,21 +1,22 @@
 -- `put_row` meets its contract: each turn writes one more value of the row.
-use Prim.Native.Nat.{_-_}
+use Prim.Native.Nat.{_*_, _-_, _≤_}
 use mathlib.Core.Path.{refl}
 use lib.ListN.{getD}
-use Rattle.value.proofs.Rowing.{Rowing, rowing-none, rowing-more, rowing-done}
+use Rattle.value.proofs.Stored.{stored-none, stored-more}
+use Rattle.value.proofs.Putting.{Along, along-rowed}
 use native.Mathlib.Omega.{arith}
 use borrow.Author.Needs.{needs}
 use Rattle.value.proofs.square.put_row.Statement.{statement}
 use Rattle.value.proofs.square.put_row.Tie as tie
 
 abbrev Inv-loop : tie.InvT-loop
-Inv-loop s₀ k row j₀ s j = Rowing k (λ i. getD row i 0) s₀ s j
+Inv-loop s₀ k row j₀ s j = (j ≤ 32) × Along (k * 32) (λ i. getD row i 0) s₀ s j
 
 abbrev μ-loop : tie.MeasureT-loop
 μ-loop s₀ k row j₀ s j = 32 - j
 
 loop-holds : tie.Need-loop-holds Inv-loop μ-loop
-loop-holds c = rowing-none (c .pre .1)
+loop-holds c = (omega arith, stored-none)
 
 element-copy-out-s : tie.Need-element-copy-out-s Inv-loop μ-loop
 element-copy-out-s c = search needs
@@ -36,10 +37,10 @@ loop-less : tie.Need-loop-less Inv-loop μ-loop
 loop-less c = search needs
 
 loop-again : tie.Need-loop-again Inv-loop μ-loop
-loop-again c = rowing-more (c .before .before .before .pre .0) (c .before .before .loop .inv) (omega arith) refl
+loop-again c = (omega arith, stored-more (c .before .before .loop .inv .1) refl (omega arith) refl (λ i h. omega arith))
 
 returns : tie.Need-returns Inv-loop μ-loop
-returns c = rowing-done (c .before .loop .inv) (omega arith)
+returns c = along-rowed (c .before .before .pre .1) (c .before .loop .inv .1) (omega arith)
 
 pub put-row-spec : {M : Type 1} → statement M
 put-row-spec =

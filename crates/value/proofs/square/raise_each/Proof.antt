@@ -1,21 +1,22 @@
 -- `raise_each` meets its contract: each turn raises one more value of the row.
-use Prim.Native.Nat.{min, max, _-_}
-use mathlib.Core.Path.{_∙_}
+use Prim.Native.Nat.{_-_, _≤_, min, max}
+use mathlib.Core.Path.{refl, _∙_}
+use lib.ListN.{getD}
 use Rattle.value.specs.Cells.{at}
-use Rattle.value.proofs.Changing.{Changing, changing-none, changing-more}
+use Rattle.value.proofs.Stored.{Stored, stored-none, stored-more}
 use native.Mathlib.Omega.{arith}
 use borrow.Author.Needs.{needs}
 use Rattle.value.proofs.square.raise_each.Statement.{statement}
 use Rattle.value.proofs.square.raise_each.Tie as tie
 
 abbrev Inv-loop : tie.InvT-loop
-Inv-loop row₀ q i u j₀ row j = Changing 32 (λ m x. max x (min (at q i m) u)) row₀ row j
+Inv-loop row₀ q i u j₀ row j = (j ≤ 32) × Stored (λ m. m) (λ m. max (getD row₀ m 0) (min (at q i m) u)) row₀ row j
 
 abbrev μ-loop : tie.MeasureT-loop
 μ-loop row₀ q i u j₀ row j = 32 - j
 
 loop-holds : tie.Need-loop-holds Inv-loop μ-loop
-loop-holds c = changing-none (c .pre .1)
+loop-holds c = (omega arith, stored-none)
 
 element-copy-out-greatest : tie.Need-element-copy-out-greatest Inv-loop μ-loop
 element-copy-out-greatest c = search needs
@@ -46,13 +47,17 @@ loop-less c = search needs
 
 loop-again : tie.Need-loop-again Inv-loop μ-loop
 loop-again c =
-    changing-more (c .before .before .before .before .before .loop .inv) (omega arith)
-    (c .greatest .ensures ∙ rw (c .before .least .ensures))
+    let turn = c .before .before .before .before .before .loop in
+    let own = turn .inv .1 .off (turn .j) (λ m h z. omega arith) in (
+      omega arith,
+      stored-more (turn .inv .1) refl (omega arith) (omega (arith, c .greatest .ensures, c .before .least .ensures))
+          (λ m h. h),
+    )
 
 returns : tie.Need-returns Inv-loop μ-loop
 returns c =
-    let w = c .before .loop .inv in
-    record { size = w .size; cells = λ j h. w .passed j (omega arith) }
+    let w = c .before .loop .inv .1 in
+    record { size = w .size ∙ c .before .before .pre .1; cells = λ j h. w .on j (omega arith) }
 
 pub raise-each-spec : {M : Type 1} → statement M
 raise-each-spec =

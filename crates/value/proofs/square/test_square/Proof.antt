@@ -2,20 +2,21 @@
 use Prim.Native.Nat.{_≤_, _-_}
 use mathlib.Core.Path.{refl}
 use Rattle.value.specs.Cells.{rowAt}
-use Rattle.value.proofs.Diagonal.{Marked, marked-none, diagonal-more, test-marked}
+use Rattle.value.proofs.Stored.{stored-none, stored-more}
+use Rattle.value.proofs.Diagonal.{Diagonal, test-marked}
 use native.Mathlib.Omega.{arith}
 use borrow.Author.Needs.{needs}
 use Rattle.value.proofs.square.test_square.Statement.{statement}
 use Rattle.value.proofs.square.test_square.Tie as tie
 
 abbrev Inv-loop : tie.InvT-loop
-Inv-loop table start l s₀ k₀ s k = (k ≤ l) × Marked 0 (rowAt table start) s k
+Inv-loop table start l s₀ k₀ s k = (k ≤ l) × Diagonal 0 (rowAt table start) s₀ s k
 
 abbrev μ-loop : tie.MeasureT-loop
 μ-loop table start l s₀ k₀ s k = l - k
 
 loop-holds : tie.Need-loop-holds Inv-loop μ-loop
-loop-holds c = (omega arith, marked-none)
+loop-holds c = (omega arith, stored-none)
 
 add-s : tie.Need-add-s Inv-loop μ-loop
 add-s c = search needs
@@ -36,7 +37,8 @@ loop-less : tie.Need-loop-less Inv-loop μ-loop
 loop-less c = search needs
 
 loop-again : tie.Need-loop-again Inv-loop μ-loop
-loop-again c = (omega arith, diagonal-more (c .before .before .loop .inv .1) (omega arith) (omega arith) refl)
+loop-again c =
+    (omega arith, stored-more (c .before .before .loop .inv .1) (omega arith) (omega arith) refl (λ i h. omega arith))
 
 returns : tie.Need-returns Inv-loop μ-loop
 returns c = test-marked (c .before .before .pre .0) (omega arith) (c .before .loop .inv .1)

@@ -1,22 +1,23 @@
 -- `pass_each` meets its contract: row k is written from its front, each place from what it was.
-use Prim.Native.Nat.{_-_, min, max}
-use native.Mathlib.Nat.{le-refl}
+use Prim.Native.Nat.{_+_, _*_, _-_, _≤_, min, max}
+use mathlib.Core.Path.{refl}
 use native.Mathlib.Omega.{arith}
 use lib.ListN.{getD}
 use Rattle.value.specs.Cells.{at}
-use Rattle.value.proofs.Rowing.{Rowing, rowing-none, rowing-more, rowing-done}
+use Rattle.value.proofs.Stored.{stored-none, stored-more}
+use Rattle.value.proofs.Putting.{Along, along-rowed}
 use borrow.Author.Needs.{needs}
 use Rattle.value.proofs.star.pass_each.Statement.{statement}
 use Rattle.value.proofs.star.pass_each.Tie as tie
 
 abbrev Inv-loop : tie.InvT-loop
-Inv-loop s₀ k row u j₀ s j = Rowing k (λ j. max (at s₀ k j) (min (getD row j 0) u)) s₀ s j
+Inv-loop s₀ k row u j₀ s j = (j ≤ 32) × Along (k * 32) (λ j. max (at s₀ k j) (min (getD row j 0) u)) s₀ s j
 
 abbrev μ-loop : tie.MeasureT-loop
 μ-loop s₀ k row u j₀ s j = 32 - j
 
 loop-holds : tie.Need-loop-holds Inv-loop μ-loop
-loop-holds c = rowing-none (c .pre .1)
+loop-holds c = (omega arith, stored-none)
 
 mul-greatest : tie.Need-mul-greatest Inv-loop μ-loop
 mul-greatest c = search needs
@@ -53,12 +54,16 @@ loop-less c = search needs
 
 loop-again : tie.Need-loop-again Inv-loop μ-loop
 loop-again c =
-    let w = c .before .before .before .before .before .loop .inv in
-    rowing-more (c .before .before .before .before .before .before .pre .0) w (omega arith)
-    (omega (arith, c .greatest .ensures, c .before .least .ensures, w .ahead _ (le-refl _) (omega arith)))
+    let turn = c .before .before .before .before .before .loop in
+    let k = c .before .before .before .before .before .before .args .k in
+    let own = turn .inv .1 .off (k * 32 + turn .j) (λ i h z. omega arith) in (
+      omega arith,
+      stored-more (turn .inv .1) refl (omega arith) (omega (arith, c .greatest .ensures, c .before .least .ensures))
+          (λ i h. omega arith),
+    )
 
 returns : tie.Need-returns Inv-loop μ-loop
-returns c = rowing-done (c .before .loop .inv) (omega arith)
+returns c = along-rowed (c .before .before .pre .1) (c .before .loop .inv .1) (omega arith)
 
 pub pass-each-spec : {M : Type 1} → statement M
 pass-each-spec =

@@ -1,32 +1,21 @@
 -- `row_of` meets its contract: after j turns the copy has the row's first j values.
-use Prim.Native.Nat.{ℕ, _+_, _-_, _<_, _≤_}
-use mathlib.Core.Path.{_≡_, _∙_}
-use mathlib.Core.List.{List}
+use Prim.Native.Nat.{_-_, _≤_}
+use mathlib.Core.Path.{refl}
 use native.Mathlib.Omega.{arith}
-use borrow.Author.Count.{below-more}
-use lib.ListN.{length, getD, set}
-use lib.Seq.{getD-set-same, getD-set-other}
 use Rattle.value.specs.Cells.{at}
+use Rattle.value.proofs.Stored.{Stored, stored-none, stored-more}
 use borrow.Author.Needs.{needs}
 use Rattle.value.proofs.star.row_of.Statement.{statement}
 use Rattle.value.proofs.star.row_of.Tie as tie
 
--- One value more is copied.
-copied-more : (f : ℕ → ℕ) (row : List ℕ) (j : ℕ) → j < length row → ((i : ℕ) → i < j → getD row i 0 ≡ f i) →
-    (i : ℕ) → i < j + 1 → getD (set row j (f j)) i 0 ≡ f i
-copied-more f row j h w =
-    below-more (λ i. getD (set row j (f j)) i 0 ≡ f i) j
-    (λ i l. getD-set-other row j i (f j) 0 (λ z. omega arith) ∙ w i l)
-    (getD-set-same row j (f j) 0 h)
-
 abbrev Inv-loop : tie.InvT-loop
-Inv-loop s k row₀ j₀ row j = (length row ≡ 32) × (j ≤ 32) × ((i : ℕ) → i < j → getD row i 0 ≡ at s k i)
+Inv-loop s k row₀ j₀ row j = (j ≤ 32) × Stored (λ i. i) (at s k) row₀ row j
 
 abbrev μ-loop : tie.MeasureT-loop
 μ-loop s k row₀ j₀ row j = 32 - j
 
 loop-holds : tie.Need-loop-holds Inv-loop μ-loop
-loop-holds c = search needs
+loop-holds c = (omega arith, stored-none)
 
 mul-row : tie.Need-mul-row Inv-loop μ-loop
 mul-row c = search needs
@@ -47,12 +36,10 @@ loop-less : tie.Need-loop-less Inv-loop μ-loop
 loop-less c = search needs
 
 loop-again : tie.Need-loop-again Inv-loop μ-loop
-loop-again c =
-    let w = c .before .before .loop in
-    (search needs, omega arith, copied-more _ (w .row) (w .j) (omega arith) (w .inv .2))
+loop-again c = (omega arith, stored-more (c .before .before .loop .inv .1) refl (omega arith) refl (λ i h. h))
 
 returns : tie.Need-returns Inv-loop μ-loop
-returns c = λ j h. c .before .loop .inv .2 j (omega arith)
+returns c = λ j h. c .before .loop .inv .1 .on j (omega arith)
 
 pub row-of-spec : {M : Type 1} → statement M
 row-of-spec =

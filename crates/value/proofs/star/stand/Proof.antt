@@ -1,19 +1,21 @@
 -- `stand` meets its contract: the diagonal's first k places are 2, and nothing else has changed.
 use Prim.Native.Nat.{_-_, _≤_}
+use mathlib.Core.Path.{refl}
 use native.Mathlib.Omega.{arith}
-use Rattle.value.proofs.Passing.{Diagonal, diagonal-none, diagonal-more, diagonal-done}
+use Rattle.value.proofs.Stored.{stored-none, stored-more}
+use Rattle.value.proofs.Diagonal.{Diagonal, stand-marked}
 use borrow.Author.Needs.{needs}
 use Rattle.value.proofs.star.stand.Statement.{statement}
 use Rattle.value.proofs.star.stand.Tie as tie
 
 abbrev Inv-loop : tie.InvT-loop
-Inv-loop s₀ l k₀ s k = (k ≤ l) × Diagonal s₀ s k
+Inv-loop s₀ l k₀ s k = (k ≤ l) × Diagonal 0 (λ i. 2) s₀ s k
 
 abbrev μ-loop : tie.MeasureT-loop
 μ-loop s₀ l k₀ s k = l - k
 
 loop-holds : tie.Need-loop-holds Inv-loop μ-loop
-loop-holds c = (search needs, diagonal-none (c .pre .1))
+loop-holds c = (search needs, stored-none)
 
 mul-s : tie.Need-mul-s Inv-loop μ-loop
 mul-s c = search needs
@@ -28,10 +30,13 @@ loop-less : tie.Need-loop-less Inv-loop μ-loop
 loop-less c = search needs
 
 loop-again : tie.Need-loop-again Inv-loop μ-loop
-loop-again c = (omega arith, diagonal-more (omega arith) (c .before .loop .inv .1))
+loop-again c =
+    (omega arith, stored-more (c .before .loop .inv .1) (omega arith) (omega arith) refl (λ i h. omega arith))
 
 returns : tie.Need-returns Inv-loop μ-loop
-returns c = diagonal-done (c .before .loop .inv .1) (c .before .before .pre .0) (omega arith)
+returns c =
+    let pre = c .before .before .pre in
+    stand-marked (pre .0) (pre .1) (omega arith) (c .before .loop .inv .1)
 
 pub stand-spec : {M : Type 1} → statement M
 stand-spec =

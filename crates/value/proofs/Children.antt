@@ -1,0 +1,102 @@
+-- What the children of a record are asked. The records are well formed, so a field that holds a child holds an earlier
+-- record of the child's sort, and what is asked of the record holds of that one too. Which fields hold children the
+-- number of the record's kind says: for each field it is the same over a stretch of numbers.
+use Prim.Native.Nat.{ℕ, _+_, _*_, _<_, _≤_}
+use mathlib.Core.Path.{_≡_, refl}
+use mathlib.Core.List.{List}
+use native.Mathlib.Omega.{arith}
+use lib.ListN.{length}
+use Rattle.meaning.specs.Record.{kinds, kindOf, kindAt, kindByte, fieldA, fieldB, Sort, formula, path, sortOf}
+use Rattle.meaning.specs.Record.{Use, unused, atomNumber, child, useA, useB}
+use Rattle.records.proofs.Kind.{stretch}
+use Rattle.value.specs.Valuing.{Asked}
+use Rattle.value.proofs.Table.{row-end}
+
+-- The record q, as a child of r of the sort σ, may be valued into the table t.
+abbrev pub Child : List ℕ → ℕ → ℕ → List ℕ → ℕ → ℕ → List ℕ → Sort → Type 0
+Child s A L cells r q t σ = (q < r) × (Asked s A L cells q t × (sortOf (kindAt s q) ≡ σ))
+
+module _ {s : List ℕ} {A L : ℕ} {cells : List ℕ} {r : ℕ} {t : List ℕ} (w : Asked s A L cells r t) where
+  lower : (q : ℕ) → q < r → Asked s A L cells q t
+  lower q h = record { legal = w .legal; index = omega (arith, w .index) }
+
+  -- The first child, or the second, of the sort σ.
+  pub ask-first : {a : ℕ} {σ : Sort} → child σ ≡ useA (kindAt s r) → a ≡ fieldA s r → Child s A L cells r a t σ
+  ask-first u f = let h = rw (← u) at (w .legal .formed .first r (w .index)) in rw f (h .0, (lower _ (h .0), h .1))
+
+  pub ask-second : {b : ℕ} {σ : Sort} → child σ ≡ useB (kindAt s r) → b ≡ fieldB s r → Child s A L cells r b t σ
+  ask-second u f = let h = rw (← u) at (w .legal .formed .second r (w .index)) in rw f (h .0, (lower _ (h .0), h .1))
+
+  -- All this holds too with a table of the same length.
+  pub ask-along : {t′ : List ℕ} → length t′ ≡ length t → Asked s A L cells r t′
+  ask-along e = record { legal = rw e (w .legal); index = w .index }
+
+  -- The record's row lies in the table.
+  pub row-room : r * L + L ≤ length t
+  row-room = omega (arith, row-end L (w .index), w .legal .enough)
+
+  -- An atom's number is below the number of atoms.
+  pub atom-low : {a : ℕ} → kindByte s r ≡ 2 → a ≡ fieldA s r → a < A
+  unfolding useA kinds
+  atom-low e f =
+      let u = stretch useA atomNumber 2 1 refl (kindByte s r) (omega arith) (omega arith) in
+      rw f (rw (← u) at (w .legal .formed .first r (w .index)))
+
+-- ---- fields that hold a child, by the number of the kind
+module _ (n : ℕ) where
+  pub modal-first : 3 ≤ n → n < 5 → child path ≡ useA (kindOf n)
+  unfolding useA kinds
+  modal-first = stretch useA (child path) 3 2 refl n
+
+  pub modal-second : 3 ≤ n → n < 5 → child formula ≡ useB (kindOf n)
+  unfolding useB kinds
+  modal-second = stretch useB (child formula) 3 2 refl n
+
+  pub test-first : n ≡ 7 → child formula ≡ useA (kindOf n)
+  unfolding useA kinds
+  test-first e = stretch useA (child formula) 7 1 refl n (omega arith) (omega arith)
+
+  pub path-first : 8 ≤ n → n < 11 → child path ≡ useA (kindOf n)
+  unfolding useA kinds
+  path-first = stretch useA (child path) 8 3 refl n
+
+  pub join-second : 8 ≤ n → n < 10 → child path ≡ useB (kindOf n)
+  unfolding useB kinds
+  join-second = stretch useB (child path) 8 2 refl n
+
+-- ---- fields that hold none
+abbrev pub Childless : Use → Type 0
+Childless u = (σ : Sort) → u ≡ child σ → ⊥
+
+unused-childless : {u : Use} → unused ≡ u → Childless u
+unused-childless e σ h = let z : _≡_ {A = ℕ} 0 1 = cc in omega arith
+
+atom-childless : {u : Use} → atomNumber ≡ u → Childless u
+atom-childless e σ h = let z : _≡_ {A = ℕ} 0 1 = cc in omega arith
+
+module _ (n : ℕ) where
+  pub constant-first : n < 2 → Childless (useA (kindOf n))
+  unfolding useA kinds
+  constant-first h = unused-childless (stretch useA unused 0 2 refl n (omega arith) h)
+
+  pub atom-first : n ≡ 2 → Childless (useA (kindOf n))
+  unfolding useA kinds
+  atom-first e = atom-childless (stretch useA atomNumber 2 1 refl n (omega arith) (omega arith))
+
+  -- Of constants and atoms.
+  pub leaf-second : n < 3 → Childless (useB (kindOf n))
+  unfolding useB kinds
+  leaf-second h = unused-childless (stretch useB unused 0 3 refl n (omega arith) h)
+
+  pub move-first : 5 ≤ n → n < 7 → Childless (useA (kindOf n))
+  unfolding useA kinds
+  move-first h l = unused-childless (stretch useA unused 5 2 refl n h l)
+
+  -- Of moves and tests.
+  pub move-second : 5 ≤ n → n < 8 → Childless (useB (kindOf n))
+  unfolding useB kinds
+  move-second h l = unused-childless (stretch useB unused 5 3 refl n h l)
+
+  pub star-second : n ≡ 10 → Childless (useB (kindOf n))
+  unfolding useB kinds
+  star-second e = unused-childless (stretch useB unused 10 1 refl n (omega arith) (omega arith))
