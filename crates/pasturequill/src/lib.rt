@@ -2,7 +2,6 @@
 // the answer and every lent buffer, on every input. Document 01's words for these are in the crate `meaning`, in specs/Service.
 ghost use mathlib.Core.Path.{_≡_};
 ghost use Rattle.meaning.specs.Service.{checkAnswer, valueAnswer, valueAfter};
-
 use value::Valued;
 
 // Check: 0 if the bytes are the records of a formula over so many atoms, else the number of the first refusal that applies.
@@ -15,7 +14,13 @@ pub extern "C" fn pasturequill_check(records: &[u8], atoms: u64) -> u8
 
 // Value: the whole formula's value at the first instant, and in the table each record's values, a row of `instants` bytes each.
 #[no_mangle]
-pub extern "C" fn pasturequill_value(records: &[u8], atoms: u64, instants: u64, cells: &[u8], table: &mut [u8]) -> Valued
+pub extern "C" fn pasturequill_value(
+    records: &[u8],
+    atoms: u64,
+    instants: u64,
+    cells: &[u8],
+    table: &mut [u8],
+) -> Valued
     ensures refusal { λ v. ⌜ v .refusal ≡ valueAnswer (now (records .entry)) atoms instants (now (cells .entry)) (now (table .entry)) .refusal ⌝ }
     ensures value { λ v. ⌜ v .value ≡ valueAnswer (now (records .entry)) atoms instants (now (cells .entry)) (now (table .entry)) .value ⌝ }
     ensures table { λ v. ⌜ now (table .exit) ≡ valueAfter (now (records .entry)) atoms instants (now (cells .entry)) (now (table .entry)) ⌝ }

@@ -1,5 +1,6 @@
 -- What the proofs of several functions cite.
 pub mod Kind
+pub mod Numbers
 pub mod Fields
 pub mod Order
 pub mod Scan

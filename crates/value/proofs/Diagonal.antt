@@ -10,7 +10,8 @@ use lib.Dec.{eqb}
 use lib.ListN.{length, getD, replicate, getD-replicate}
 use Rattle.meaning.specs.Record.{ahead, back}
 use Rattle.meaning.specs.Value.{moveSquare, testSquare}
-use Rattle.value.specs.Cells.{at, Holds, wayOf, nextCell}
+use Rattle.records.specs.Code.{wayOf}
+use Rattle.value.specs.Cells.{at, Holds, nextCell}
 use Rattle.value.specs.Closing.{standing}
 use Rattle.value.proofs.Stored.{Stored}
 

@@ -6,7 +6,6 @@ pub mod Diagonal
 pub mod Following
 pub mod Leading
 pub mod Closure
-pub mod Numbers
 pub mod Meant
 pub mod Table
 pub mod Children

@@ -12,10 +12,11 @@ use Rattle.meaning.specs.Tree.{Tree, asForm, asPath, nodeOf, treeAt, formAt, pa
 use Rattle.meaning.specs.Value.{Row, Square, valueOf, squareOf, modalRow, moveSquare, testSquare}
 use Rattle.meaning.specs.Value.{choiceSquare, sequenceSquare, starSquare}
 use Rattle.meaning.proofs.Nodes.{tree-of}
-use Rattle.value.specs.Cells.{wayOf, modeOf, joinOf}
+use Rattle.records.specs.Code.{wayOf, modeOf}
+use Rattle.value.specs.Cells.{joinOf}
 use Rattle.value.specs.Valuing.{Asked}
-use Rattle.value.proofs.Numbers.{constant-kind, atom-kind, modal-kind}
-use Rattle.value.proofs.Numbers.{move-kind, test-kind, join-kind, star-kind}
+use Rattle.records.proofs.Numbers.{constant-kind, atom-kind, modal-kind}
+use Rattle.records.proofs.Numbers.{move-kind, test-kind, join-kind, star-kind}
 
 module _ {s : List ℕ} {A L : ℕ} {cells : List ℕ} {r : ℕ} {t : List ℕ} (w : Asked s A L cells r t) where
   -- What the formula q, and the path q, of the records are worth.

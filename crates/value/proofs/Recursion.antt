@@ -12,9 +12,10 @@ use Rattle.meaning.specs.Record.{kindAt, kindByte, fieldA, fieldB, Sort, formul
 use Rattle.meaning.specs.Tree.{pathAt}
 use Rattle.meaning.specs.Value.{modalRow, moveSquare, testSquare, starSquare}
 use Rattle.meaning.proofs.Onward.{square-bound}
-use Rattle.value.specs.Cells.{at, rowAt, Holds, Put, modeOf, joinOf, wayOf}
+use Rattle.records.specs.Code.{modeOf, wayOf}
+use Rattle.value.specs.Cells.{at, rowAt, Holds, Put, joinOf}
 use Rattle.value.specs.Valuing.{Under, Right, Asked, Valued, Squared}
-use Rattle.value.proofs.Numbers.{differs, path-number, formula-number}
+use Rattle.records.proofs.Numbers.{differs, path-number, formula-number}
 use Rattle.value.proofs.Meant.{val, sq, value-constant, value-atom, value-modal}
 use Rattle.value.proofs.Meant.{square-move, square-test, square-join, square-star}
 use Rattle.value.proofs.Same.{holds-same, joined-same, star-same, modal-same}

@@ -5,7 +5,7 @@
 --   Put L start f old new    `new` is `old` with the values f k in the row from `start` on
 --   Raised f u old new       a row of 32 values, each the greater of what it was and the smaller of f j and u
 --   Rowed k f old new        `new` is the square `old` with the values f j in row k
---   wayOf, modeOf, joinOf    what the number of a kind says: a move's way, a modality's mode, a choice or a sequence
+--   joinOf                   a choice or a sequence, by the number of its kind
 --   nextCell                 how far behind k * 33 the value of a move of the kind stands
 use Prim.Native.Nat.{ℕ, _+_, _*_, _<_, _≤_, min, max}
 use mathlib.Core.Path.{_≡_}
@@ -40,12 +40,6 @@ pub record Rowed (k : ℕ) (f : ℕ → ℕ) (old new : List ℕ) : Type 0 where
   pub size : length new ≡ 1024
   pub row : (j : ℕ) → j < 32 → at new k j ≡ f j
   pub others : (q j : ℕ) → (q ≡ k → ⊥) → j < 32 → at new q j ≡ at old q j
-
-unfoldable pub wayOf : ℕ → Way
-wayOf kind = cond (eqb kind 5) ahead back
-
-unfoldable pub modeOf : ℕ → Mode
-modeOf kind = cond (eqb kind 3) diamond box
 
 unfoldable pub joinOf : ℕ → ℕ → Square → Square → Square
 joinOf kind L p q = cond (eqb kind 8) (choiceSquare p q) (sequenceSquare L p q)

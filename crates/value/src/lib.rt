@@ -14,7 +14,6 @@ ghost use Rattle.meaning.specs.Value.{valueOf};
 ghost use Rattle.meaning.specs.Refusal.{firstOf, valueGrounds};
 ghost use Rattle.meaning.specs.Service.{valueAnswer, valueAfter, table};
 ghost use Rattle.value.specs.Valuing.{Legal};
-
 use records::fault;
 use records::layout;
 

@@ -4,7 +4,8 @@ ghost use mathlib.Core.Path.{_≡_};
 ghost use Prim.Native.Nat.{ℕ, _+_, _<_, _≤_, min, max};
 ghost use lib.ListN.{length, getD};
 ghost use Rattle.meaning.specs.Value.{moveSquare, testSquare, choiceSquare, sequenceSquare, starSquare};
-ghost use Rattle.value.specs.Cells.{at, rowAt, Holds, Raised, Rowed, wayOf, joinOf, nextCell};
+ghost use Rattle.records.specs.Code.{wayOf};
+ghost use Rattle.value.specs.Cells.{at, rowAt, Holds, Raised, Rowed, joinOf, nextCell};
 
 // ---- moves and tests: a diagonal each
 // How far behind k * 33 the value of a move stands: a step, kind 5, leads from k to k + 1, a back step from k + 1 to k.

@@ -4,7 +4,7 @@
 use mathlib.Core.Path.{sym, _∙_}
 use native.Mathlib.Omega.{arith}
 use Rattle.meaning.specs.Record.{kindByte, Sort, formula, path}
-use Rattle.value.proofs.Numbers.{path-number, formula-number}
+use Rattle.records.proofs.Numbers.{path-number, formula-number}
 use Rattle.value.proofs.Table.{row-end}
 use Rattle.value.proofs.Children.{Child, ask-first, ask-second, ask-along, row-room, atom-low}
 use Rattle.value.proofs.Children.{test-first, path-first, join-second, modal-first, modal-second}

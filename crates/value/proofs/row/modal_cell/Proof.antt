@@ -2,7 +2,7 @@
 use borrow.Author.Needs.{needs}
 use borrow.Author.Tests.{eq-eqb, ne-eqb}
 use Rattle.meaning.specs.Value.{modalRow}
-use Rattle.value.specs.Cells.{modeOf}
+use Rattle.records.specs.Code.{modeOf}
 use Rattle.value.proofs.row.modal_cell.Statement.{statement}
 use Rattle.value.proofs.row.modal_cell.Tie as tie
 

@@ -3,7 +3,8 @@ use Prim.Native.Nat.{_-_, _≤_}
 use native.Mathlib.Omega.{arith}
 use borrow.Author.Needs.{needs}
 use Rattle.meaning.specs.Value.{modalRow}
-use Rattle.value.specs.Cells.{at, rowAt, modeOf}
+use Rattle.records.specs.Code.{modeOf}
+use Rattle.value.specs.Cells.{at, rowAt}
 use Rattle.value.proofs.Stored.{stored-none}
 use Rattle.value.proofs.Putting.{Along, along-modal, along-put}
 use Rattle.value.proofs.row.put_modal.Statement.{statement}

@@ -11,8 +11,8 @@ use Rattle.meaning.specs.Record.{constant, atom, modal, move, test, choice, seq
 use Rattle.meaning.specs.Record.{kindByte, count, known, Sort, formula, path, sortOf}
 use Rattle.meaning.specs.WellFormed.{WellFormed}
 use Rattle.meaning.proofs.Bounds.{le-or-lt}
+use Rattle.records.specs.Code.{wayOf, modeOf}
 use Rattle.records.proofs.Kind.{stretch, onward}
-use Rattle.value.specs.Cells.{wayOf, modeOf}
 
 -- ---- a number's kind
 pub constant-kind : (n : ℕ) → n < 2 → kindOf n ≡ constant (eqb n 1)
