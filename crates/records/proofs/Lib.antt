@@ -1,6 +1,7 @@
 -- What the proofs of several functions cite.
 pub mod Kind
 pub mod Numbers
+pub mod Held
 pub mod Fields
 pub mod Order
 pub mod Scan

@@ -21,9 +21,9 @@ use Rattle.value.proofs.Meant.{square-move, square-test, square-join, s
 use Rattle.value.proofs.Same.{holds-same, joined-same, star-same, modal-same}
 use Rattle.value.proofs.Table.{under-all, steady-same, steady-lower, steady-then, put-right, put-steady}
 use Rattle.value.proofs.Children.{ask-first, ask-second}
-use Rattle.value.proofs.Children.{modal-first, modal-second, test-first, path-first, join-second}
-use Rattle.value.proofs.Children.{Childless, constant-first, leaf-second, atom-first}
-use Rattle.value.proofs.Children.{move-first, move-second, star-second}
+use Rattle.records.proofs.Held.{modal-first, modal-second, test-first, path-first, join-second}
+use Rattle.records.proofs.Held.{Childless, constant-first, leaf-second, atom-first}
+use Rattle.records.proofs.Held.{move-first, move-second, star-second}
 
 module _ {s : List ℕ} {A L : ℕ} {cells : List ℕ} {r n : ℕ} {t : List ℕ} (w : Asked s A L cells r t)
     (num : n ≡ kindByte s r) where

@@ -7,7 +7,7 @@ use Rattle.meaning.specs.Record.{kindByte, Sort, formula, path}
 use Rattle.records.proofs.Numbers.{path-number, formula-number}
 use Rattle.value.proofs.Table.{row-end}
 use Rattle.value.proofs.Children.{Child, ask-first, ask-second, ask-along, row-room, atom-low}
-use Rattle.value.proofs.Children.{test-first, path-first, join-second, modal-first, modal-second}
+use Rattle.records.proofs.Held.{test-first, path-first, join-second, modal-first, modal-second}
 use Rattle.value.proofs.Recursion.{square-low, move-done, test-done, star-done, join-done}
 use Rattle.value.proofs.Recursion.{constant-done, atom-done, modal-done}
 use borrow.Author.Needs.{needs}
