@@ -6,8 +6,8 @@ use native.Mathlib.Omega.{arith}
 use borrow.Author.Needs.{needs}
 use Rattle.meaning.specs.Refusal.{ground1, ground8-cells, mostAtoms, firstOf, treeGrounds, grounds9}
 use Rattle.meaning.proofs.Accepted.{ground1-fails}
-use Rattle.value.proofs.Grounds.{size-fits, refused-1, refused-8, refused-tree, refused-cells, refused-room}
-use Rattle.value.proofs.Grounds.{not-refused}
+use Rattle.value.proofs.Grounds.{size-fits, not-refused}
+use Rattle.value.proofs.Grounds.{refused-1, refused-8, refused-tree, refused-cells, refused-room}
 use Rattle.value.proofs.first_refusal.Statement.{statement}
 use Rattle.value.proofs.first_refusal.Tie as tie
 
