@@ -10,11 +10,11 @@ use native.Mathlib.Omega.{arith}
 use borrow.Author.Tests.{eq-eqb, ne-eqb}
 use lib.ListN.{length, getD, set, replicate, length-set, getD-replicate}
 use lib.Seq.{getD-set-same, getD-set-other}
-use Rattle.meaning.specs.Record.{formula, path, Use, unused, atomNumber, child, kindOf, kindByte, kindAt, fieldA, fieldB, useA, useB, count, mostRecords}
+use Rattle.meaning.specs.Record.{Use, unused, atomNumber, child, kindOf, kindByte, kindAt, fieldA, fieldB, useA, useB, count, mostRecords}
 use Rattle.meaning.specs.Translation.{names, uses, placesIn}
 use Rattle.meaning.specs.Refusal.{firstOf, ground7}
 use Rattle.meaning.proofs.First.{Clear}
-use Rattle.records.specs.Code.{useOf, useCode, sortCode}
+use Rattle.records.specs.Code.{useOf, useCode}
 use Rattle.records.specs.Places.{Added, Places}
 use Rattle.records.proofs.Fields.{use-again}
 

@@ -2,7 +2,7 @@
 -- each of them, so the first of the five grounds is the first of ten, which the code goes through: at each, either its
 -- number is the answer or the rest decides.
 use Prim.Native.Nat.{ℕ}
-use mathlib.Core.Path.{_≡_, refl, sym, _∙_}
+use mathlib.Core.Path.{_≡_, refl}
 use mathlib.Core.Bool.{Bool, true, false, cond, not, _||_}
 use mathlib.Core.List.{List, [], _∷_}
 use lib.Dec.{eqb}

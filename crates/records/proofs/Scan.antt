@@ -1,18 +1,16 @@
 -- The grounds of records as a scan meets them. Every number is above 0, so a result of 0 says that no ground applies.
 -- Behind clear records comes the last record's sort, and behind that the places: what is found first is the number of
 -- the whole list.
-use Prim.Native.Nat.{ℕ, pred, _-_, _%_, _*_, _<_, _≤_}
+use Prim.Native.Nat.{ℕ, pred, _-_, _<_}
 use mathlib.Core.Path.{_≡_, refl, sym, _∙_}
-use mathlib.Core.Bool.{Bool, true, false, not, _||_, true≢false}
+use mathlib.Core.Bool.{Bool}
 use mathlib.Core.List.{List, [], _∷_}
 use native.Mathlib.Numerals.{sub-one}
-use native.Mathlib.Omega.{arith}
-use borrow.Author.Tests.{eq-eqb, ne-eqb, eqb-true, eqb-false, ltb-false, not-false}
-use lib.Dec.{eqb, ltb, lit<}
-use lib.ListN.{length}
+use borrow.Author.Tests.{eq-eqb, ne-eqb}
+use lib.Dec.{lit<}
 use Rattle.meaning.specs.Run.{each}
-use Rattle.meaning.specs.Record.{Sort, formula, path, sortOf, kindOf, kindByte, kindAt, count, recordSize, mostRecords}
-use Rattle.meaning.specs.Refusal.{firstOf, differ, ground1, ground2, ground3, ground4, ground5, ground6, ground6-last, ground7, recordGrounds, treeGrounds}
+use Rattle.meaning.specs.Record.{formula, sortOf, kindOf, kindByte, kindAt, count}
+use Rattle.meaning.specs.Refusal.{firstOf, ground2, ground3, ground4, ground5, ground6, ground6-last, ground7, recordGrounds, treeGrounds}
 use Rattle.meaning.proofs.First.{Numbered, none-clear, clear-skip, found-stop, numbered-each}
 use Rattle.records.specs.Code.{sortCode}
 use Rattle.records.proofs.Fields.{differ-code}

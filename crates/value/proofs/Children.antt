@@ -5,8 +5,8 @@ use mathlib.Core.Path.{_≡_, refl}
 use mathlib.Core.List.{List}
 use native.Mathlib.Omega.{arith}
 use lib.ListN.{length}
-use Rattle.meaning.specs.Record.{kinds, kindOf, kindAt, kindByte, fieldA, fieldB, Sort, formula, path, sortOf}
-use Rattle.meaning.specs.Record.{Use, unused, atomNumber, child, useA, useB}
+use Rattle.meaning.specs.Record.{kinds, kindAt, kindByte, fieldA, fieldB, Sort, sortOf}
+use Rattle.meaning.specs.Record.{atomNumber, child, useA, useB}
 use Rattle.records.proofs.Kind.{stretch}
 use Rattle.value.specs.Valuing.{Asked}
 use Rattle.value.proofs.Table.{row-end}

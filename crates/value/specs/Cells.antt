@@ -13,7 +13,6 @@ use mathlib.Core.Bool.{cond}
 use mathlib.Core.List.{List}
 use lib.ListN.{length, getD}
 use lib.Dec.{eqb}
-use Rattle.meaning.specs.Record.{Way, ahead, back, Mode, diamond, box}
 use Rattle.meaning.specs.Value.{Square, choiceSquare, sequenceSquare}
 
 abbrev pub at : List ℕ → ℕ → ℕ → ℕ

@@ -2,11 +2,9 @@
 --   standing p k j     p, with 2 from each instant to itself
 --   by p mid k j       p, or by way of the instant mid
 --   Passed k u f old new   `new` is the square `old` with row k raised to the smaller of f j and u
-use Prim.Native.Nat.{ℕ, _<_, min, max}
-use mathlib.Core.Path.{_≡_}
+use Prim.Native.Nat.{ℕ, min, max}
 use mathlib.Core.Bool.{cond}
 use mathlib.Core.List.{List}
-use lib.ListN.{length}
 use lib.Dec.{eqb}
 use Rattle.meaning.specs.Value.{Square}
 use Rattle.value.specs.Cells.{at, Rowed}

@@ -1,6 +1,5 @@
 // Valuing a record: a formula's row calls for its path's square, and a test in the path for its formula's row. The record number falls.
 ghost use mathlib.Core.Path.{_≡_};
-ghost use Prim.Native.Nat.{ℕ};
 ghost use Rattle.meaning.specs.Record.{formula, path, sortOf, kindAt};
 ghost use Rattle.value.specs.Valuing.{Asked, Valued, Squared};
 use crate::row;

@@ -5,7 +5,7 @@ mod square;
 mod star;
 
 ghost use mathlib.Core.Path.{_≡_};
-ghost use Prim.Native.Nat.{pred, _*_, _≤_, _<_};
+ghost use Prim.Native.Nat.{pred, _<_};
 ghost use lib.ListN.{length};
 ghost use Rattle.meaning.specs.Run.{written, cellOf};
 ghost use Rattle.meaning.specs.Record.{count};

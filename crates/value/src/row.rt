@@ -1,6 +1,6 @@
 // Rows of the table: the values of one formula at each instant.
 ghost use mathlib.Core.Path.{_≡_};
-ghost use Prim.Native.Nat.{ℕ, _+_, _*_, _<_, _≤_};
+ghost use Prim.Native.Nat.{_+_, _*_, _<_, _≤_};
 ghost use lib.ListN.{length};
 ghost use Rattle.meaning.specs.Run.{cellOf};
 ghost use Rattle.meaning.specs.Value.{diamondRow, boxRow, modalRow};

@@ -1,9 +1,9 @@
 // A path's square: 1,024 bytes, 32 to a row, the value from k to j at k * 32 + j. Where a loop runs over the 32 bytes of one row with the
 // other factor in a local, the compiler makes vector instructions of it.
 ghost use mathlib.Core.Path.{_≡_};
-ghost use Prim.Native.Nat.{ℕ, _+_, _<_, _≤_, min, max};
+ghost use Prim.Native.Nat.{ℕ, _+_, _<_, _≤_};
 ghost use lib.ListN.{length, getD};
-ghost use Rattle.meaning.specs.Value.{moveSquare, testSquare, choiceSquare, sequenceSquare, starSquare};
+ghost use Rattle.meaning.specs.Value.{moveSquare, testSquare, choiceSquare, sequenceSquare};
 ghost use Rattle.records.specs.Code.{wayOf};
 ghost use Rattle.value.specs.Cells.{at, rowAt, Holds, Raised, Rowed, joinOf, nextCell};
 

@@ -1,6 +1,6 @@
 // A star in one square: no pass, then each instant in turn as one on the way.
 ghost use mathlib.Core.Path.{_≡_};
-ghost use Prim.Native.Nat.{ℕ, _+_, _<_, _≤_, min, max};
+ghost use Prim.Native.Nat.{ℕ, _+_, _<_, _≤_};
 ghost use lib.ListN.{length, getD};
 ghost use Rattle.meaning.specs.Value.{starSquare};
 ghost use Rattle.value.specs.Cells.{at, Holds};
