@@ -1,0 +1,4 @@
+-- What the proofs of several functions cite.
+pub mod Words
+pub mod Scanning
+pub mod Grounds

@@ -1,0 +1,89 @@
+// Words of a rule: literals and places.
+ghost use mathlib.Core.Path.{_≡_};
+ghost use Prim.Native.Nat.{pred, _+_, _*_, _<_};
+ghost use lib.ListN.{length};
+ghost use Rattle.meaning.specs.Run.{cellOf};
+ghost use Rattle.meaning.specs.Rule.{symbolOf, isPrevious, isNegated, placed, symbolValue, plain, literal};
+
+// The words' parts: a symbol below this, and marks for the previous instant and for negation.
+const PREVIOUS: u16 = 16384;
+
+const NEGATED: u16 = 32768;
+
+pub fn symbol(word: u16) -> usize
+    ensures { λ s. ⌜ s ≡ symbolOf word ⌝ }
+{
+    (word % PREVIOUS) as usize
+}
+
+pub fn is_previous(word: u16) -> bool
+    ensures { λ b. ⌜ b ≡ isPrevious word ⌝ }
+{
+    word / PREVIOUS % 2 == 1
+}
+
+fn is_negated(word: u16) -> bool
+    ensures { λ b. ⌜ b ≡ isNegated word ⌝ }
+{
+    word / NEGATED % 2 == 1
+}
+
+// Whether a place has the instant k of l: 0 every instant, 1 the first, 2 all but the first, 3 the last.
+pub fn is_placed(l: usize, place: u16, k: usize) -> bool
+    requires { ⌜ k < l ⌝ }
+    ensures { λ b. ⌜ b ≡ placed l place k ⌝ }
+{
+    match place {
+        0 => true,
+        1 => k == 0,
+        2 => 0 < k,
+        3 => k + 1 == l,
+        _ => false,
+    }
+}
+
+// The value of a literal at instant k.
+pub fn literal_at(word: u16, width: usize, l: usize, cells: &[u8], k: usize) -> u8
+    requires { ⌜ (symbolOf word < 2 + width) × (k < l) × (length (now cells) ≡ width * l) ⌝ }
+    ensures { λ v. ⌜ v ≡ literal (cellOf width (now (cells .entry))) word k ⌝ }
+{
+    let u = plain_at(word, width, l, cells, k);
+    if is_negated(word) {
+        return three::negation(u);
+    }
+    u
+}
+
+// The same, with no regard to the mark of negation.
+fn plain_at(word: u16, width: usize, l: usize, cells: &[u8], k: usize) -> u8
+    requires { ⌜ (symbolOf word < 2 + width) × (k < l) × (length (now cells) ≡ width * l) ⌝ }
+    ensures { λ v. ⌜ v ≡ plain (cellOf width (now (cells .entry))) word k ⌝ }
+{
+    if is_previous(word) {
+        return symbol_at(symbol(word), width, l, cells, before(k));
+    }
+    symbol_at(symbol(word), width, l, cells, k)
+}
+
+fn before(k: usize) -> usize
+    ensures { λ q. ⌜ q ≡ pred k ⌝ }
+{
+    if k == 0 {
+        return 0;
+    }
+    k - 1
+}
+
+// The value of a symbol: 0 false, 1 true, 2 + i column i.
+fn symbol_at(symbol: usize, width: usize, l: usize, cells: &[u8], k: usize) -> u8
+    requires { ⌜ (symbol < 2 + width) × (k < l) × (length (now cells) ≡ width * l) ⌝ }
+    ensures { λ v. ⌜ v ≡ symbolValue (cellOf width (now (cells .entry))) symbol k ⌝ }
+{
+    if symbol == 0 {
+        return 0;
+    }
+    if symbol == 1 {
+        return 2;
+    }
+    cells[width * k + (symbol - 2)]
+}
