@@ -6,6 +6,9 @@
 //!
 //! Every input is drawn from a fixed seed. Compared are the refusal, the value, every byte of the table, and the bytes around it.
 
+mod inputs;
+
+use inputs::{hex, random_cells, Framed, Random};
 use std::process::exit;
 
 /// Room for instants, atoms and, in bytes, for records.
@@ -335,36 +338,6 @@ fn expected(input: &Input) -> Expected {
     Expected { refusal, value: three_valued(given.holds[last][0], total.holds[last][0]), written }
 }
 
-// ---- random numbers (splitmix64)
-
-struct Random(u64);
-
-impl Random {
-    fn next(&mut self) -> u64 {
-        self.0 = self.0.wrapping_add(0x9e37_79b9_7f4a_7c15);
-        let mut z = self.0;
-        z = (z ^ (z >> 30)).wrapping_mul(0xbf58_476d_1ce4_e5b9);
-        z = (z ^ (z >> 27)).wrapping_mul(0x94d0_49bb_1331_11eb);
-        z ^ (z >> 31)
-    }
-    fn below(&mut self, n: usize) -> usize {
-        (self.next() % n as u64) as usize
-    }
-    /// From low to high, both included.
-    fn between(&mut self, low: usize, high: usize) -> usize {
-        low + self.below(high - low + 1)
-    }
-    fn percent(&mut self, p: usize) -> bool {
-        self.below(100) < p
-    }
-    fn pick<T: Copy>(&mut self, from: &[T]) -> T {
-        from[self.below(from.len())]
-    }
-    fn byte(&mut self) -> u8 {
-        self.next() as u8
-    }
-}
-
 // ---- random formulas
 
 /// How a formula grows: how often each kind of path is taken, how often a modality is a box and a move goes back, and how sizes are split.
@@ -511,22 +484,6 @@ fn laid_out(random: &mut Random, nodes: &[Node], root: usize) -> Vec<u8> {
         bytes[6 * place[i]..6 * place[i] + 6].copy_from_slice(&record(node.kind, a, child(1)));
     }
     bytes
-}
-
-fn random_cells(random: &mut Random, atoms: usize, instants: usize) -> Vec<u8> {
-    const MIXES: [&[u8]; 8] =
-        [&[0, 1, 2], &[0, 1, 2], &[0, 0, 0, 1, 2], &[0, 1, 2, 2, 2, 2, 2], &[1, 2], &[0, 2], &[0, 1], &[1, 1, 1, 1, 2]];
-    let values = random.pick(&MIXES);
-    // Either each cell is drawn by itself, or an atom keeps its value for a while.
-    let keeps = random.pick(&[0, 0, 60, 90]);
-    let mut cells = vec![0; atoms * instants];
-    for k in 0..instants {
-        for i in 0..atoms {
-            let kept = k > 0 && random.percent(keeps);
-            cells[k * atoms + i] = if kept { cells[(k - 1) * atoms + i] } else { random.pick(values) };
-        }
-    }
-    cells
 }
 
 /// An input that is accepted, with a formula of so many records.
@@ -778,27 +735,6 @@ extern "C" {
     ) -> Valued;
 }
 
-/// Bytes at a random distance from the start of their memory, with others around them.
-struct Framed {
-    memory: Vec<u8>,
-    start: usize,
-    size: usize,
-}
-
-const AROUND: usize = 64;
-
-impl Framed {
-    fn new(random: &mut Random, size: usize) -> Framed {
-        let memory = (0..size + 2 * AROUND).map(|_| random.byte()).collect();
-        Framed { memory, start: random.below(AROUND), size }
-    }
-    fn holding(random: &mut Random, bytes: &[u8]) -> Framed {
-        let mut framed = Framed::new(random, bytes.len());
-        framed.memory[framed.start..framed.start + bytes.len()].copy_from_slice(bytes);
-        framed
-    }
-}
-
 /// Calls the library on an input and says what is wrong with the outcome, if anything is.
 fn difference(random: &mut Random, input: &Input, expected: &Expected) -> Option<String> {
     let records = Framed::holding(random, &input.records);
@@ -839,10 +775,6 @@ fn difference(random: &mut Random, input: &Input, expected: &Expected) -> Option
 }
 
 // ---- the run
-
-fn hex(bytes: &[u8]) -> String {
-    bytes.iter().map(|byte| format!("{byte:02x}")).collect()
-}
 
 /// What the inputs were like, so that a run which tries too little is seen, and fails.
 #[derive(Default)]
