@@ -4,13 +4,12 @@
 #include <stdio.h>
 #include <stdlib.h>
 #include <string.h>
-#include <time.h>
 
+#include "timing.h"
 #include "valuers.h"
 #include "workloads.h"
 
-enum { SAMPLES = 15, MOST_TABLE = 255 * 32 };
-static const double least_sample = 0.020; /* seconds */
+enum { MOST_TABLE = 255 * 32 };
 
 /* ---- the four */
 static uint8_t with(valuer *valuer, const struct input *in, uint8_t *table)
@@ -62,53 +61,14 @@ static void agree(const struct workload *w)
 }
 
 /* ---- time */
-static double now(void)
-{
-    struct timespec t;
-    clock_gettime(CLOCK_MONOTONIC, &t);
-    return (double)t.tv_sec + 1e-9 * (double)t.tv_nsec;
-}
-
-/* Seconds that so many rounds over a workload's inputs take. */
-static double sample(const struct contender *c, const struct workload *w, size_t rounds)
+/* So many rounds over a workload's inputs. */
+static void run(int contender, const void *work, size_t rounds)
 {
     static uint8_t table[MOST_TABLE];
-    double start = now();
+    const struct workload *w = work;
     for (size_t i = 0; i < rounds; i++)
         for (size_t j = 0; j < w->inputs; j++)
-            c->run(&w->input[j], table);
-    return now() - start;
-}
-
-/* So many rounds that a sample is long enough. */
-static size_t enough_rounds(const struct contender *c, const struct workload *w)
-{
-    size_t rounds = 1;
-    for (double t = sample(c, w, rounds); t < least_sample; t = sample(c, w, rounds))
-        rounds = t < least_sample / 8 ? 2 * rounds : (size_t)((double)rounds * 1.1 * least_sample / t) + 1;
-    return rounds;
-}
-
-static int by_size(const void *x, const void *y)
-{
-    double u = *(const double *)x, v = *(const double *)y;
-    return (u > v) - (u < v);
-}
-
-/* Each contender's median time of one call, in nanoseconds. */
-static void measure(const struct workload *w, double *medians)
-{
-    double times[CONTENDERS][SAMPLES];
-    size_t rounds[CONTENDERS];
-    for (int c = 0; c < CONTENDERS; c++)
-        rounds[c] = enough_rounds(&contenders[c], w);
-    for (int s = 0; s < SAMPLES; s++)
-        for (int c = 0; c < CONTENDERS; c++)
-            times[c][s] = 1e9 * sample(&contenders[c], w, rounds[c]) / (double)(rounds[c] * w->inputs);
-    for (int c = 0; c < CONTENDERS; c++) {
-        qsort(times[c], SAMPLES, sizeof times[c][0], by_size);
-        medians[c] = times[c][SAMPLES / 2];
-    }
+            contenders[contender].run(&w->input[j], table);
 }
 
 int main(void)
@@ -118,14 +78,14 @@ int main(void)
 
     for (size_t i = 0; i < workload_count; i++)
         agree(&workloads[i]);
-    printf("The four agree on every byte. Nanoseconds a call, medians of %d samples of %.0f ms or more, taken in turn:\n\n", SAMPLES,
-           1e3 * least_sample);
+    printf("The four agree on every byte. Nanoseconds a call, medians of %d samples of %d ms or more, taken in turn:\n\n", SAMPLES,
+           LEAST_SAMPLE_MS);
     printf("%-34s %7s %3s %10s %9s %9s %9s %11s %8s %8s\n", "workload", "records", "L", "plain", "rows", "bits", "library", "lib/plain",
            "lib/rows", "lib/bits");
     for (size_t i = 0; i < workload_count; i++) {
         const struct workload *w = &workloads[i];
         double medians[CONTENDERS];
-        measure(w, medians);
+        measure(run, CONTENDERS, w, w->inputs, medians);
         printf("%-34s %7zu %3zu %10.0f %9.0f %9.0f %9.0f %11.3f %8.2f %8.2f\n", w->name, w->input[0].formula.n, w->input[0].instants,
                medians[PLAIN], medians[ROWS], medians[BITS], medians[LIBRARY], medians[LIBRARY] / medians[PLAIN],
                medians[LIBRARY] / medians[ROWS], medians[LIBRARY] / medians[BITS]);

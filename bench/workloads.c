@@ -4,19 +4,16 @@
 
 #include <string.h>
 
+#include "random.h"
+
 struct workload workloads[MOST_WORKLOADS];
 static size_t count;
 
 static uint64_t seed = 13;
 
-/* splitmix64 */
 static size_t below(size_t n)
 {
-    seed += UINT64_C(0x9e3779b97f4a7c15);
-    uint64_t z = seed;
-    z = (z ^ z >> 30) * UINT64_C(0xbf58476d1ce4e5b9);
-    z = (z ^ z >> 27) * UINT64_C(0x94d049bb133111eb);
-    return (size_t)((z ^ z >> 31) % n);
+    return random_below(&seed, n);
 }
 
 /* The next input of the newest workload, its cells drawn at random: one in seven 0, one in seven 1, the others 2. */

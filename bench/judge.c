@@ -1,0 +1,83 @@
+/* The plain judge: each sentence of document 01 as a line or a loop. */
+#include "judge.h"
+
+enum { RULE_SIZE = 6, MOST_WORDS = 6126, MOST_WIDTH = 287, MOST_INSTANTS = 32 };
+enum { SYMBOL = 16383, PREVIOUS = 16384, NEGATED = 32768 };
+enum place { EVERY, FIRST, LATER, LAST };
+
+static uint8_t smaller(uint8_t u, uint8_t v) { return u < v ? u : v; }
+static uint8_t greater(uint8_t u, uint8_t v) { return u > v ? u : v; }
+static uint8_t implies(uint8_t u, uint8_t v) { return u <= v ? 2 : v; }
+
+static uint8_t literal(uint16_t word, size_t width, const uint8_t *cells, size_t k)
+{
+    size_t symbol = word & SYMBOL;
+    if (word & PREVIOUS)
+        k--;
+    uint8_t value = symbol == 0 ? 0 : symbol == 1 ? 2 : cells[k * width + symbol - 2];
+    if (word & NEGATED)
+        value = value == 0 ? 2 : 0;
+    return value;
+}
+
+static int has_instant(uint16_t place, size_t instants, size_t k)
+{
+    switch (place) {
+    case FIRST:
+        return k == 0;
+    case LATER:
+        return k > 0;
+    case LAST:
+        return k == instants - 1;
+    default:
+        return 1;
+    }
+}
+
+static int holds(const uint16_t *rule, size_t width, const uint8_t *cells, size_t k)
+{
+    uint8_t body = smaller(literal(rule[1], width, cells, k), literal(rule[2], width, cells, k));
+    uint8_t head = greater(literal(rule[3], width, cells, k), literal(rule[4], width, cells, k));
+    head = greater(head, literal(rule[5], width, cells, k));
+    return implies(body, head) == 2;
+}
+
+pasturequill_judged judge_plain(const uint16_t *rules, size_t n, size_t width, size_t instants, const uint8_t *cells)
+{
+    for (size_t i = 0; i < n; i++) {
+        const uint16_t *rule = rules + RULE_SIZE * i;
+        for (size_t k = 0; k < instants; k++)
+            if (has_instant(rule[0], instants, k) && !holds(rule, width, cells, k))
+                return (pasturequill_judged){.rule = i, .instant = k};
+    }
+    return (pasturequill_judged){.holds = 1};
+}
+
+static uint8_t refusal(const uint16_t *rules, size_t rules_size, uint64_t width, uint64_t instants, const uint8_t *cells, size_t cells_size)
+{
+    if (width > MOST_WIDTH || instants < 1 || instants > MOST_INSTANTS || cells_size != width * instants)
+        return 8;
+    if (rules_size % RULE_SIZE != 0 || rules_size > MOST_WORDS)
+        return 13;
+    for (size_t at = 0; at < rules_size; at += RULE_SIZE) {
+        const uint16_t *rule = rules + at;
+        if (rule[0] > LAST)
+            return 13;
+        for (size_t j = 1; j < RULE_SIZE; j++)
+            if ((rule[j] & SYMBOL) >= 2 + width || ((rule[j] & PREVIOUS) && rule[0] != LATER))
+                return 13;
+    }
+    for (size_t at = 0; at < cells_size; at++)
+        if (cells[at] > 2)
+            return 9;
+    return 0;
+}
+
+pasturequill_judged judge_checked(const uint16_t *rules, size_t rules_size, uint64_t width, uint64_t instants, const uint8_t *cells,
+                                  size_t cells_size)
+{
+    uint8_t number = refusal(rules, rules_size, width, instants, cells, cells_size);
+    if (number != 0)
+        return (pasturequill_judged){.refusal = number};
+    return judge_plain(rules, rules_size / RULE_SIZE, (size_t)width, (size_t)instants, cells);
+}
