@@ -41,7 +41,10 @@ enum {
     PASTUREQUILL_RECORD_SIZE = 6,    /* bytes of one record */
     PASTUREQUILL_MOST_RECORDS = 255, /* records of one formula */
     PASTUREQUILL_MOST_ATOMS = 32,
-    PASTUREQUILL_MOST_INSTANTS = 32
+    PASTUREQUILL_MOST_INSTANTS = 32,
+    PASTUREQUILL_RULE_SIZE = 6,      /* words of one rule */
+    PASTUREQUILL_MOST_RULES = 1021,  /* rules of one list */
+    PASTUREQUILL_MOST_COLUMNS = 287  /* cells of a row of a filled trace */
 };
 
 /* ---- kinds: F is a formula, P a path; what fields a and b hold stands behind each, and a field that holds nothing is zero */
@@ -69,9 +72,10 @@ enum {
     PASTUREQUILL_NO_SUCH_ATOM = 5,  /* an atom number that is not below the number of atoms */
     PASTUREQUILL_WRONG_SORT = 6,    /* a formula where a path belongs or a path where a formula does; the last record is a path */
     PASTUREQUILL_NOT_A_TREE = 7,    /* a record before the last is the child of no place or of several */
-    PASTUREQUILL_WRONG_SIZE = 8,    /* over 32 atoms; instants not 1 to 32; another number of cells than atoms times instants */
+    PASTUREQUILL_WRONG_SIZE = 8,    /* over 32 atoms or 287 columns; instants not 1 to 32; another number of cells than these have */
     PASTUREQUILL_WRONG_CELL = 9,    /* a cell over 2 */
-    PASTUREQUILL_NO_ROOM = 10       /* output shorter than needed */
+    PASTUREQUILL_NO_ROOM = 10,      /* output shorter than needed */
+    PASTUREQUILL_WRONG_RULES = 13   /* words not a multiple of 6 or over 6,126, a place over 3, no such symbol, previous outside place 2 */
 };
 
 /* Whether the bytes are the records of a formula over so many atoms, numbered from 0.
@@ -96,6 +100,26 @@ typedef struct {
  * Gives the first refusal that applies: 1; 8; for each record from the first 2, 3, 4, 5, 6; 6 for the last record; 7; 9; 10. */
 pasturequill_valued pasturequill_value(const uint8_t *records, size_t records_size, uint64_t atoms, uint64_t instants,
                                        const uint8_t *cells, size_t cells_size, uint8_t *table, size_t table_size);
+
+/* ---- judge
+ * A rule is six words: its place, two body literals, three head literals. Places: 0 every instant, 1 the first, 2 all but the first, 3 the
+ * last. A literal is a symbol, plus 16,384 for its value at the previous instant (in place 2 alone), plus 32,768 for negation. Symbols: 0
+ * false, 1 true, 2 + i column i of the filled trace. A rule holds at an instant if the least value of its body implies the greatest of
+ * its head. */
+typedef struct {
+    uint8_t refusal;  /* 0, or the number of the first refusal that applies */
+    uint8_t holds;    /* 1 if every rule holds at all its instants; 0 if not, and on a refusal */
+    uint64_t rule;    /* the first rule that fails, from 0; 0 if none does */
+    uint64_t instant; /* its first failing instant */
+} pasturequill_judged;
+
+/* Whether all rules hold over a filled trace.
+ *   rules, rules_size    any words, rules_size counts them; up to 1,021 rules are taken, none is a yes
+ *   width, instants      any numbers; 0 to 287 columns and 1 to 32 instants are taken
+ *   cells, cells_size    any bytes; width times instants cells of 0 to 2 are taken, rows in order
+ * Gives the first refusal that applies: 8; 13; 9. */
+pasturequill_judged pasturequill_judge(const uint16_t *rules, size_t rules_size, uint64_t width, uint64_t instants,
+                                       const uint8_t *cells, size_t cells_size);
 
 #ifdef __cplusplus
 }

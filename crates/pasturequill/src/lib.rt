@@ -1,7 +1,8 @@
 // The front door: the services as a C program calls them. No function here has a `requires`; each states its complete outcome,
 // the answer and every lent buffer, on every input. Document 01's words for these are in the crate `meaning`, in specs/Service.
 ghost use mathlib.Core.Path.{_≡_};
-ghost use Rattle.meaning.specs.Service.{checkAnswer, valueAnswer, valueAfter};
+ghost use Rattle.meaning.specs.Service.{checkAnswer, valueAnswer, valueAfter, judgeAnswer};
+use rules::Judged;
 use value::Valued;
 
 // Check: 0 if the bytes are the records of a formula over so many atoms, else the number of the first refusal that applies.
@@ -26,4 +27,20 @@ pub extern "C" fn pasturequill_value(
     ensures table { λ v. ⌜ now (table .exit) ≡ valueAfter (now (records .entry)) atoms instants (now (cells .entry)) (now (table .entry)) ⌝ }
 {
     value::value(records, atoms, instants, cells, table)
+}
+
+// Judge: whether every rule holds at all its instants of a filled trace, and else the first rule that fails and its first failing instant.
+#[no_mangle]
+pub extern "C" fn pasturequill_judge(
+    rules: &[u16],
+    width: u64,
+    instants: u64,
+    cells: &[u8],
+) -> Judged
+    ensures refusal { λ v. ⌜ v .refusal ≡ judgeAnswer (now (rules .entry)) width instants (now (cells .entry)) .refusal ⌝ }
+    ensures holds { λ v. ⌜ v .holds ≡ judgeAnswer (now (rules .entry)) width instants (now (cells .entry)) .holds ⌝ }
+    ensures rule { λ v. ⌜ v .rule ≡ judgeAnswer (now (rules .entry)) width instants (now (cells .entry)) .rule ⌝ }
+    ensures instant { λ v. ⌜ v .instant ≡ judgeAnswer (now (rules .entry)) width instants (now (cells .entry)) .instant ⌝ }
+{
+    rules::judge(rules, width, instants, cells)
 }
