@@ -1,24 +1,17 @@
 -- The grounds of judging. Behind sizes that fit stand the grounds of the rules, and behind those the cells'; and where no
--- ground applies, every rule is in form and the cells are a trace.
-use Prim.Native.Nat.{ℕ, _*_, _≤_}
+-- ground applies, every rule is in form and each instant has a cell for each column.
+use Prim.Native.Nat.{ℕ}
 use mathlib.Core.Path.{_≡_, refl, sym, _∙_}
 use mathlib.Core.Bool.{true, false}
 use mathlib.Core.List.{List, [], _∷_, _++_}
 use native.Mathlib.Omega.{arith}
-use lib.ListN.{length}
 use Rattle.meaning.specs.Run.{each}
 use Rattle.meaning.specs.Judge.{ruleCount}
 use Rattle.meaning.specs.Refusal.{Ground, firstOf, ground8-cells, ground13-length, ground13, grounds9, judgeGrounds, mostColumns}
-use Rattle.meaning.proofs.Fails.{tests}
 use Rattle.meaning.proofs.First.{Numbered, numbered-append, numbered-each, none-clear, clear-append, clear-each, clear-skip}
 use Rattle.meaning.proofs.First.{found-stop, stop, pass}
+use Rattle.trace.proofs.Fitting.{size-fits, cells-numbered}
 use Rattle.rules.specs.Filled.{Filled}
-
--- Sizes that fit.
-pub size-fits : (W L : ℕ) (cells : List ℕ) → ground8-cells mostColumns W L cells .applies ≡ false
-    → (W ≤ 287) × (length cells ≡ W * L)
-unfolding ground8-cells
-size-fits W L cells e = let h = simp tests at e in (omega arith, h .1)
 
 module _ (ws : List ℕ) (W L : ℕ) (cells : List ℕ) where
   abbrev formGrounds : List Ground
@@ -32,9 +25,8 @@ module _ (ws : List ℕ) (W L : ℕ) (cells : List ℕ) where
   forms-numbered = (omega arith, numbered-each _ (ruleCount ws) (λ i. (omega arith, tt)))
 
   all-numbered : Numbered (judgeGrounds ws W L cells)
-  unfolding judgeGrounds ground8-cells grounds9
-  all-numbered =
-      (omega arith, numbered-append formGrounds (grounds9 cells) forms-numbered (numbered-each _ (length cells) (λ i. (omega arith, tt))))
+  unfolding judgeGrounds ground8-cells
+  all-numbered = (omega arith, numbered-append formGrounds (grounds9 cells) forms-numbered (cells-numbered cells))
 
   -- What no ground shuts out.
   pub filled : all ≡ 0 → Filled ws W L cells
@@ -44,7 +36,7 @@ module _ (ws : List ℕ) (W L : ℕ) (cells : List ℕ) where
       let forms = clear-append formGrounds (grounds9 cells) .0 rest .0 in
       record {
         forms = λ i h. clear-each _ (ruleCount ws) (forms .1) i h .0;
-        size = size-fits W L cells size-right .1;
+        size = size-fits mostColumns W L cells size-right .3;
       }
 
   -- ---- the first that applies, test by test

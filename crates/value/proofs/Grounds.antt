@@ -14,13 +14,10 @@ use Rattle.meaning.specs.Refusal.{treeGrounds, valueGrounds, mostAtoms}
 use Rattle.meaning.proofs.Bounds.{le-or-lt}
 use Rattle.meaning.proofs.Fails.{tests}
 use Rattle.meaning.proofs.First.{Clear, Numbered, none-clear, clear-append, clear-each, clear-skip, found-stop}
-use Rattle.meaning.proofs.First.{numbered-append, numbered-each, stop, pass}
+use Rattle.meaning.proofs.First.{numbered-append, stop, pass}
 use Rattle.meaning.proofs.Accepted.{clear-well-formed, tree-numbered}
+use Rattle.trace.proofs.Fitting.{size-fits, cells-numbered}
 use Rattle.value.specs.Valuing.{Legal}
-
-cells-numbered : (cells : List ℕ) → Numbered (grounds9 cells)
-unfolding grounds9
-cells-numbered cells = numbered-each _ (length cells) (λ i. omega arith)
 
 -- No cell is over 2, also where there is none.
 cells-low : (cells : List ℕ) → Clear (grounds9 cells) → (i : ℕ) → getD cells i 0 ≤ 2
@@ -30,12 +27,6 @@ cells-low cells c i =
     (λ (h : length cells ≤ i). rw (List·getD-eq-default cells 0 h) (omega arith))
     (λ (h : i < length cells). let e = simp tests at (clear-each _ (length cells) c i h .0) in omega arith)
     (le-or-lt (length cells) i)
-
--- Sizes that fit.
-pub size-fits : (A L : ℕ) (cells : List ℕ) → ground8-cells mostAtoms A L cells .applies ≡ false
-    → (A ≤ 32) × (0 < L) × (L ≤ 32) × (length cells ≡ A * L)
-unfolding ground8-cells
-size-fits A L cells e = let h = simp tests at e in (omega arith, omega arith, omega arith, h .1)
 
 module _ (s : List ℕ) (A L : ℕ) (cells : List ℕ) (room : ℕ) where
   abbrev last : List Ground
@@ -62,7 +53,7 @@ module _ (s : List ℕ) (A L : ℕ) (cells : List ℕ) (room : ℕ) where
       let (length-right, (size-right, rest)) = none-clear _ all-numbered e in
       let t = clear-append (treeGrounds false s A) (grounds9 cells ++ last) .0 rest in
       let c = clear-append (grounds9 cells) last .0 (t .1) in
-      let (few, some, short, size) = size-fits A L cells size-right in
+      let (few, some, short, size) = size-fits mostAtoms A L cells size-right in
       record {
         formed = clear-well-formed false s A .0 (length-right, (le-ltb 32 A few, t .0));
         some = some;

@@ -3,7 +3,8 @@ use mathlib.Core.Path.{_≡_, sym, _∙_}
 use mathlib.Core.Bool.{false}
 use borrow.Author.Needs.{needs}
 use Rattle.meaning.specs.Refusal.{ground8-cells, mostColumns}
-use Rattle.rules.proofs.Grounds.{size-fits, refused-8, refused-13, cells-decide}
+use Rattle.trace.proofs.Fitting.{size-fits}
+use Rattle.rules.proofs.Grounds.{refused-8, refused-13, cells-decide}
 use Rattle.rules.proofs.first_refusal.Statement.{statement}
 use Rattle.rules.proofs.first_refusal.Tie as tie
 
@@ -20,7 +21,7 @@ returns : tie.Need-returns
 returns c = refused-8 _ _ _ _ (sym (c .before .wrong-size .ensures) ∙ c .if1 .taken)
 
 rules-refusal-requires : tie.Need-rules-refusal-requires
-rules-refusal-requires c κs = size-fits _ _ _ (fits c) .0
+rules-refusal-requires c κs = size-fits _ _ _ _ (fits c) .0
 
 returns-2 : tie.Need-returns-2
 returns-2 c = refused-13 _ _ _ _ (fits (c .before .before)) (c .before .rules-refusal .ensures) (c .if2 .taken)

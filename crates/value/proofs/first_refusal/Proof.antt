@@ -6,7 +6,8 @@ use native.Mathlib.Omega.{arith}
 use borrow.Author.Needs.{needs}
 use Rattle.meaning.specs.Refusal.{ground1, ground8-cells, mostAtoms, firstOf, treeGrounds, grounds9}
 use Rattle.meaning.proofs.Accepted.{ground1-fails}
-use Rattle.value.proofs.Grounds.{size-fits, not-refused}
+use Rattle.trace.proofs.Fitting.{size-fits}
+use Rattle.value.proofs.Grounds.{not-refused}
 use Rattle.value.proofs.Grounds.{refused-1, refused-8, refused-tree, refused-cells, refused-room}
 use Rattle.value.proofs.first_refusal.Statement.{statement}
 use Rattle.value.proofs.first_refusal.Tie as tie
@@ -70,7 +71,7 @@ row-start-requires : tie.Need-row-start-requires
 row-start-requires c κs =
     let two = c .before .before .before .before .before in
     let (_, some, few) = ground1-fails _ .0 (right (two .before .before)) in
-    let (_, _, short, _) = size-fits _ _ _ (fits two) in
+    let (_, _, short, _) = size-fits _ _ _ _ (fits two) in
     omega (arith, c .record-count .ensures)
 
 returns-5 : tie.Need-returns-5

@@ -1,0 +1,20 @@
+-- The grounds of a trace, for every service that takes one. Sizes that the eighth ground lets pass are within their bounds,
+-- and each instant has a cell for each column. Each ground of the cells has a number above 0.
+use Prim.Native.Nat.{ℕ, _*_, _<_, _≤_}
+use mathlib.Core.Path.{_≡_}
+use mathlib.Core.Bool.{false}
+use mathlib.Core.List.{List}
+use native.Mathlib.Omega.{arith}
+use lib.ListN.{length}
+use Rattle.meaning.specs.Refusal.{ground8-cells, grounds9}
+use Rattle.meaning.proofs.Fails.{tests}
+use Rattle.meaning.proofs.First.{Numbered, numbered-each}
+
+pub size-fits : (most W L : ℕ) (cells : List ℕ) → ground8-cells most W L cells .applies ≡ false
+    → (W ≤ most) × (0 < L) × (L ≤ 32) × (length cells ≡ W * L)
+unfolding ground8-cells
+size-fits most W L cells e = let h = simp tests at e in (omega arith, omega arith, omega arith, h .1)
+
+pub cells-numbered : (cells : List ℕ) → Numbered (grounds9 cells)
+unfolding grounds9
+cells-numbered cells = numbered-each _ (length cells) (λ i. omega arith)
