@@ -1,0 +1,3 @@
+-- The demands as theorems about the definitions of meaning.
+pub mod Filling
+pub mod Demand3
