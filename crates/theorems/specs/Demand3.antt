@@ -28,13 +28,13 @@ pub record OneFilling (s : List ℕ) (A L : ℕ) (cells : List ℕ) : Type 0 whe
   pub only : (f : List ℕ) → Filling A (count s) L cells f → Meets s A L f → f ≡ filling
   -- In it each formula's label has that formula's value, and a path's label the value of its modality over its continuation's label.
   pub formulas : (r k : ℕ) → r < count s → k < L → sortOf (kindAt s r) ≡ formula
-    → labelOf A (count s) filling r k ≡ valueOf L (cellOf A cells) (formAt s r) k
+      → labelOf A (count s) filling r k ≡ valueOf L (cellOf A cells) (formAt s r) k
   pub paths : (r k : ℕ) → r < count s → k < L → sortOf (kindAt s r) ≡ path
-    → labelOf A (count s) filling r k
-    ≡ modalRow (context s r .mode) L (squareOf L (cellOf A cells) (pathAt s r)) (labelOf A (count s) filling (context s r .continuation)) k
+      → labelOf A (count s) filling r k
+      ≡ modalRow (context s r .mode) L (squareOf L (cellOf A cells) (pathAt s r)) (labelOf A (count s) filling (context s r .continuation)) k
   -- With that rule, a filling exists exactly if the whole formula has the value 2 at the first instant.
   pub asserted : ((f : List ℕ) × Filling A (count s) L cells f × AllHold (words (translation s A)) L (cellOf (A + count s) f))
-    ↔ (valueOf L (cellOf A cells) (formAt s (pred (count s))) 0 ≡ 2)
+      ↔ (valueOf L (cellOf A cells) (formAt s (pred (count s))) 0 ≡ 2)
 
 pub record Demand3 : Type 0 where
   pub one-filling : (s : List ℕ) (A L : ℕ) (cells : List ℕ) → Accepted s A → Trace A L cells → OneFilling s A L cells
