@@ -1,2 +1,5 @@
 -- The proofs of the demands.
 pub mod Shape
+pub mod Climbing
+pub mod Cleared
+pub mod Shaped
