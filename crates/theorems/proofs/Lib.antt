@@ -1,5 +1,4 @@
 -- The proofs of the demands.
 pub mod Shape
-pub mod Climbing
 pub mod Cleared
 pub mod Shaped

@@ -15,7 +15,7 @@ use Rattle.meaning.proofs.Parents.{InFirst, InSecond, first-used, second-used, 
 use Rattle.theorems.specs.Demand3.{Accepted}
 use Rattle.theorems.proofs.Shape.{contAt, Child, Part, Shape}
 use Rattle.theorems.proofs.Cleared.{OneWay, accepted-formed, accepted-star}
-use Rattle.theorems.proofs.Climbing.{path-before, continuation-record, context-handed}
+use Rattle.meaning.proofs.Climbing.{path-before, continuation-record, context-handed}
 
 -- ---- children
 -- A child that is a path has the mode and the continuation of what it stands under.
