@@ -10,7 +10,7 @@ use borrow.Author.Tests.{leb-true, leb-false, ne-eqb}
 use Rattle.meaning.specs.Three.{imp, negation}
 
 -- An implication is told by comparing its two sides.
-by-comparison : (u v : ℕ) → ((u ≤ v) × (imp u v ≡ 2)) ⊎ ((v < u) × (imp u v ≡ v))
+pub by-comparison : (u v : ℕ) → ((u ≤ v) × (imp u v ≡ 2)) ⊎ ((v < u) × (imp u v ≡ v))
 unfolding imp
 by-comparison u v = go (leb u v) refl
   where

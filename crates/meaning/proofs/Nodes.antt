@@ -93,6 +93,10 @@ tree-of {s} {A} w r l =
     tree-node s r ∙ node-agrees K _ _ _ _ a b
 
 -- ---- the sort of a tree
+-- No sort is both.
+pub differs : {σ : Sort} → σ ≡ Sort.formula → σ ≡ Sort.path → ⊥
+differs e d = let z : _≡_ {A = ℕ} 0 1 = cc in omega arith
+
 -- A tree taken as one of the sort.
 abbrev pub asSort : Sort → Tree → Tree
 asSort Sort.formula t = Tree.formula (asForm t)

@@ -3,6 +3,7 @@
 -- induction on how far that end is settles it; and the row of the star is a solution.
 use Prim.Native.Nat.{ℕ, zero, suc, _-_, _≤_, _<_}
 use mathlib.Core.Path.{_≡_, sym, _∙_, ap}
+use mathlib.Core.Logic.{_↔_}
 use native.Mathlib.Nat.{le-refl}
 use native.Mathlib.Omega.{arith}
 use Rattle.meaning.specs.Record.{Mode, Way, ahead, back}
@@ -42,3 +43,12 @@ module _ (m : Mode) (L : ℕ) (p : Square) (w : Way) (strict : (k j : ℕ) → 0
   star-solution b x f k =
       let g : Solves m L p c (modalRow m L (starSquare L p) c) = λ k l. modal-star m L p c k l (b k l) in
       solutions-agree x _ f g (suc (distance w L k)) k (le-refl _)
+
+  -- So a row solves the equation exactly if it is the star's.
+  pub star-solves : ((k : ℕ) → k < L → c k ≤ 2) → (x : Row)
+      → Solves m L p c x ↔ ((k : ℕ) → k < L → x k ≡ modalRow m L (starSquare L p) c k)
+  star-solves b x = (
+    star-solution b x,
+    λ e k l. e k l ∙ modal-star m L p c k l (b k l)
+        ∙ ap (joined m (c k)) (modal-congruence m L p _ x k (λ j h _. sym (e j h))),
+  )

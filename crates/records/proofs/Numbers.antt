@@ -8,9 +8,10 @@ use mathlib.Core.Logic.{_⊎_, inl, inr}
 use native.Mathlib.Omega.{arith}
 use lib.Dec.{eqb}
 use Rattle.meaning.specs.Record.{constant, atom, modal, move, test, choice, sequence, star, kinds, kindOf, kindAt}
-use Rattle.meaning.specs.Record.{kindByte, count, known, Sort, formula, path, sortOf}
+use Rattle.meaning.specs.Record.{kindByte, count, known, formula, path, sortOf}
 use Rattle.meaning.specs.WellFormed.{WellFormed}
 use Rattle.meaning.proofs.Bounds.{le-or-lt}
+use Rattle.meaning.proofs.Nodes.{differs}
 use Rattle.records.specs.Code.{wayOf, modeOf}
 use Rattle.records.proofs.Kind.{stretch, onward}
 
@@ -59,9 +60,6 @@ unfolding known kinds
 core-number n h =
     elim (le-or-lt 11 n)
     [ inl l ↦ absurd (true≢false (sym h ∙ sym (onward (known false) 11 37 refl n l))) | inr l ↦ l ]
-
-pub differs : {σ : Sort} → σ ≡ formula → σ ≡ path → ⊥
-differs e d = let z : _≡_ {A = ℕ} 0 1 = cc in omega arith
 
 pub formula-number : {s : List ℕ} {A : ℕ} → WellFormed false s A → (r : ℕ) → r < count s → sortOf (kindAt s r) ≡ formula
     → kindByte s r < 5

@@ -1,7 +1,7 @@
 -- What judging asks once the refusals are past, and an answer by its four numbers.
 --   Filled ws W L cells        rules in form over W columns, and a filled trace
 --   Gives refusal .. answer    the four numbers are the answer's
-use Prim.Native.Nat.{ℕ, _*_, _<_, _≤_}
+use Prim.Native.Nat.{ℕ, _*_, _<_}
 use mathlib.Core.Path.{_≡_}
 use mathlib.Core.Bool.{false}
 use mathlib.Core.List.{List}

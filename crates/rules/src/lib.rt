@@ -3,8 +3,7 @@ mod form;
 mod literal;
 
 ghost use mathlib.Core.Path.{_≡_};
-ghost use Prim.Native.Nat.{_<_, _≤_};
-ghost use lib.ListN.{length};
+ghost use Prim.Native.Nat.{_<_};
 ghost use Rattle.meaning.specs.Run.{cellOf};
 ghost use Rattle.meaning.specs.Rule.{ruleAt, bodyValue, headValue};
 ghost use Rattle.meaning.specs.Judge.{ruleCount, failsAt, verdict};

@@ -2,3 +2,12 @@
 pub mod Shape
 pub mod Cleared
 pub mod Shaped
+pub mod Keeping
+pub mod Literals
+pub mod Saying
+pub mod Labelled
+pub mod Continuing
+pub mod Determined
+pub mod OneFilling
+pub mod FewRules
+pub mod Demand

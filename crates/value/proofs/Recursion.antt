@@ -15,7 +15,8 @@ use Rattle.meaning.proofs.Onward.{square-bound}
 use Rattle.records.specs.Code.{modeOf, wayOf}
 use Rattle.value.specs.Cells.{at, rowAt, Holds, Put, joinOf}
 use Rattle.value.specs.Valuing.{Under, Right, Asked, Valued, Squared}
-use Rattle.records.proofs.Numbers.{differs, path-number, formula-number}
+use Rattle.meaning.proofs.Nodes.{differs}
+use Rattle.records.proofs.Numbers.{path-number, formula-number}
 use Rattle.value.proofs.Meant.{val, sq, value-constant, value-atom, value-modal}
 use Rattle.value.proofs.Meant.{square-move, square-test, square-join, square-star}
 use Rattle.value.proofs.Same.{holds-same, joined-same, star-same, modal-same}

@@ -15,7 +15,7 @@ use Rattle.meaning.specs.Value.{valueOf}
 use Rattle.meaning.proofs.Bounds.{le-or-lt}
 use Rattle.value.specs.Cells.{rowAt, Put}
 use Rattle.value.specs.Valuing.{Under, itself, first, second, Right, Steady}
-use Rattle.records.proofs.Numbers.{differs}
+use Rattle.meaning.proofs.Nodes.{differs}
 
 -- A row ends where or before a later one starts.
 pub row-end : {a n : ℕ} (L : ℕ) → a < n → a * L + L ≤ n * L

@@ -1,0 +1,99 @@
+-- Right labels are determined. A formula's label is its value, and a path's is made from the label that continues the
+-- path. From there one goes on to what continues a later path, and so comes to a formula in fewer steps than there are
+-- records. So labels that are made from one another in so many steps no longer hang on what they were at first: they
+-- are right, and right labels are these.
+use Prim.Native.Nat.{ℕ, zero, suc, _+_, _≤_, _<_, zero-le}
+use mathlib.Core.Path.{_≡_, refl, sym, _∙_}
+use mathlib.Core.Bool.{false}
+use mathlib.Core.List.{List}
+use mathlib.Core.Logic.{_↔_}
+use native.Mathlib.Omega.{arith}
+use Rattle.meaning.specs.Record.{count, kindAt, Sort, formula, path}
+use Rattle.meaning.specs.Value.{Row}
+use Rattle.meaning.specs.WellFormed.{WellFormed}
+use Rattle.meaning.proofs.Modality.{modal-bound, modal-congruence}
+use Rattle.meaning.proofs.Onward.{values-bound}
+use Rattle.theorems.proofs.Shape.{contAt, Shape}
+use Rattle.theorems.proofs.Labelled.{meant, Right}
+use Rattle.meaning.proofs.Climbing.{path-before}
+use Rattle.theorems.proofs.Continuing.{sortAt, onto}
+
+module _ (s : List ℕ) (L : ℕ) (cell : ℕ → ℕ → ℕ) where
+  -- What the label of r is meant to be, among the labels X.
+  abbrev made : (ℕ → Row) → ℕ → Row
+  made X r = meant s L cell (sortAt s r) X r
+
+  -- ---- the labels, step by step
+  labels : ℕ → ℕ → Row
+  labels zero r k = 0
+  labels (suc d) r k = made (labels d) r k
+
+  -- More steps than there are records.
+  pub solution : ℕ → Row
+  solution = labels (suc (count s))
+
+  module _ (cells : (k i : ℕ) → k < L → cell k i ≤ 2) where
+    -- Of values, values are made.
+    made-low : (X : ℕ → Row) → ((q j : ℕ) → j < L → X q j ≤ 2) → (σ : Sort) (r k : ℕ) → k < L
+        → meant s L cell σ X r k ≤ 2
+    unfolding meant
+    made-low X b formula r k l = values-bound L cell cells _ k l
+    made-low X b path r k l = modal-bound _ L _ _ k (b (contAt s r))
+
+    -- After each step.
+    labels-low : (d r k : ℕ) → k < L → labels d r k ≤ 2
+    unfolding labels
+    labels-low zero r k l = zero-le
+    labels-low (suc d) r k l = made-low (labels d) (labels-low d) (sortAt s r) r k l
+
+    -- At last.
+    pub solution-low : (r k : ℕ) → k < L → solution r k ≤ 2
+    unfolding solution
+    solution-low = labels-low (suc (count s))
+
+  -- ---- labels that agree
+  -- Below L.
+  abbrev Agree : Row → Row → Type 0
+  Agree x y = (k : ℕ) → k < L → x k ≡ y k
+
+  -- What is meant hangs on the continuation alone.
+  made-agrees : (X Y : ℕ → Row) (r : ℕ) → (sortAt s r ≡ path → Agree (X (contAt s r)) (Y (contAt s r)))
+      → Agree (made X r) (made Y r)
+  unfolding meant
+  made-agrees X Y r e k l = go (sortAt s r) refl
+    where
+      go : (σ : Sort) → sortAt s r ≡ σ → meant s L cell σ X r k ≡ meant s L cell σ Y r k
+      go formula t = refl
+      go path t = modal-congruence _ L _ _ _ k (λ j i _. e t j i)
+
+  -- Labels X d of which each is made from those a step before.
+  abbrev Steps : (ℕ → ℕ → Row) → Type 0
+  Steps X = (d r k : ℕ) → r < count s → k < L → X (suc d) r k ≡ made (X d) r k
+
+  module _ {A : ℕ} (w : WellFormed false s A) (shape : (r : ℕ) → r < count s → Shape s L cell (kindAt s r) r) where
+    -- After enough steps, what continues a path does not hang on what was at first.
+    steps-agree : (X Y : ℕ → ℕ → Row) → Steps X → Steps Y → (d r : ℕ) → r < count s → count s ≤ suc d + r
+        → sortAt s r ≡ path → Agree (X d (contAt s r)) (Y d (contAt s r))
+    steps-agree X Y f g zero r l n p k i = absurd (omega (arith, path-before w r l p))
+    steps-agree X Y f g (suc d) r l n p k i =
+        let c = contAt s r in
+        let o = onto w L cell shape r l p in
+        let before : sortAt s c ≡ path → Agree (X d (contAt s c)) (Y d (contAt s c))
+        = λ t. let (q, a, e) = o .onward t in rw e (steps-agree X Y f g d q (a .within) (omega arith) (a .sorted)) in
+        f d c k (o .within) i ∙ made-agrees (X d) (Y d) c before k i ∙ sym (g d c k (o .within) i)
+
+    -- As many steps as there are records are enough.
+    settles : (X Y : ℕ → ℕ → Row) → Steps X → Steps Y → (r : ℕ) → r < count s
+        → Agree (made (X (count s)) r) (made (Y (count s)) r)
+    settles X Y f g r l = made-agrees (X (count s)) (Y (count s)) r (steps-agree X Y f g (count s) r l (omega arith))
+
+    -- Labels are right exactly if they are these.
+    pub determined : (X : ℕ → Row)
+        → ((r : ℕ) → r < count s → Right s L cell X r) ↔ ((r k : ℕ) → r < count s → k < L → X r k ≡ solution r k)
+    unfolding solution labels
+    determined X = (
+      λ h r k l i. h r l k i ∙ settles (λ d. X) labels (λ d q j b. h q b j) (λ d q j b v. refl) r l k i,
+      λ h r l k i. h r k l i
+          ∙ settles labels (λ d. labels (suc d)) (λ d q j b v. refl) (λ d q j b v. refl) r l k i
+          ∙ made-agrees solution X r (λ p j v. sym (h (contAt s r) j (onto w L cell shape r l p .within) v)) k i,
+    )

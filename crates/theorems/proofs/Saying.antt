@@ -1,0 +1,142 @@
+-- What the rules of a record say of its label, as an equation at each instant: the label is another literal; a join;
+-- what is behind a test; or the row of a move over the continuation. A rule says that one value is at most another, and
+-- two such make an equation. The rules of a move compare an instant with the one beside it, and its third rule is for
+-- the instant that has none beside it.
+use Prim.Native.Nat.{ℕ, zero, suc, pred, _+_, _*_, _-_, _≤_, _<_, min, max}
+use mathlib.Core.Path.{_≡_, refl, sym, _∙_}
+use mathlib.Core.Bool.{true}
+use mathlib.Core.List.{[], _∷_, _++_}
+use mathlib.Core.Logic.{_↔_, Iff·trans, inl, inr}
+use native.Mathlib.Omega.{arith}
+use lib.Dec.{ltb}
+use borrow.Author.Tests.{ltb-true, lt-ltb}
+use Rattle.meaning.specs.Three.{negation}
+use Rattle.meaning.specs.Record.{Mode, diamond, box, Way, ahead, back}
+use Rattle.meaning.specs.Value.{Row, moveSquare, modalRow}
+use Rattle.meaning.specs.Rule.{Rule, placed, literal, bodyValue, headValue}
+use Rattle.meaning.specs.Translation.{sameRules, edgeRule, joinRules, testRules, moveRules}
+use Rattle.meaning.proofs.Fails.{eqb-holds}
+use Rattle.meaning.proofs.Implication.{by-comparison, negation-zero, negation-positive}
+use Rattle.meaning.proofs.Bounds.{le-or-lt}
+use Rattle.meaning.proofs.Reach.{Beside}
+use Rattle.meaning.proofs.Within.{joined, gate, edge}
+use Rattle.meaning.proofs.Modality.{modal-move, modal-edge}
+use Rattle.theorems.proofs.Keeping.{Kept, AllKept, Keeping, append-kept}
+use Rattle.theorems.proofs.Literals.{literal-false, literal-true, literal-previous, literal-negated}
+use Rattle.theorems.proofs.Literals.{literal-low, rule-holds}
+
+-- The negation of a value, as a difference.
+negation-value : (u : ℕ) → negation u ≡ 2 - 2 * u
+negation-value zero = negation-zero
+negation-value (suc u) = omega (arith, negation-positive (suc u) (omega arith))
+
+-- A test of numbers.
+ltb-holds : (a b : ℕ) → (ltb a b ≡ true) ↔ (a < b)
+ltb-holds a b = (ltb-true a b, lt-ltb a b)
+
+-- The words that a rule leaves unused: 0 in a head, 1, which is worth 2, in a body.
+max-zero : (u : ℕ) → max u 0 ≡ u
+max-zero u = omega arith
+
+module _ (L : ℕ) (cell : ℕ → ℕ → ℕ) (low : (k i : ℕ) → cell k i ≤ 2) where
+  -- The smaller of a literal's value and 2 is that value.
+  min-two : (w k : ℕ) → min (literal cell w k) 2 ≡ literal cell w k
+  min-two w k = omega (arith, literal-low cell low w k)
+
+  ruleset unused = (literal-false, literal-true, min-two, max-zero)
+
+  -- A rule, at its instants; and one whose instants are all.
+  kept-placed : (ρ : Rule) (k : ℕ)
+      → Kept L cell ρ k ↔ (placed L (ρ .place) k ≡ true → bodyValue cell ρ k ≤ headValue cell ρ k)
+  unfolding Kept
+  kept-placed ρ k = simp (rule-holds cell low) (λ h. h, λ h. h)
+
+  kept-always : (ρ : Rule) (k : ℕ) → ρ .place ≡ 0 → Kept L cell ρ k ↔ (bodyValue cell ρ k ≤ headValue cell ρ k)
+  unfolding placed
+  kept-always ρ k e = simp kept-placed (rw e (λ h. h refl, λ h _. h))
+
+  module _ (k : ℕ) where
+    -- A literal's value at k.
+    abbrev at : ℕ → ℕ
+    at w = literal cell w k
+
+    -- Two literals are the same at a place.
+    same-placed : (p u v : ℕ) → AllKept L cell (sameRules p u v) k ↔ (placed L p k ≡ true → at u ≡ at v)
+    unfolding bodyValue headValue
+    same-placed p u v = simp (kept-placed, unused) (
+      λ h q. omega (arith, h .0 q, h .1 .0 q),
+      λ h. (λ q. omega (arith, h q), (λ q. omega (arith, h q), tt)),
+    )
+
+    -- At every instant.
+    pub same-says : (u v : ℕ) → AllKept L cell (sameRules 0 u v) k ↔ (at u ≡ at v)
+    unfolding placed
+    same-says u v = Iff·trans (same-placed 0 u v) (λ h. h refl, λ h _. h)
+
+    -- A label is that of a path that leads nowhere.
+    pub edge-placed : (m : Mode) (p x : ℕ) → Kept L cell (edgeRule m p x) k ↔ (placed L p k ≡ true → at x ≡ edge m)
+    unfolding bodyValue headValue edgeRule edge
+    edge-placed diamond p x = simp (kept-placed, unused) (λ h q. omega (arith, h q), λ h q. omega (arith, h q))
+    edge-placed box p x =
+        simp (kept-placed, unused) (λ h q. omega (arith, h q, literal-low cell low x k), λ h q. omega (arith, h q))
+
+    -- Choice and star.
+    pub join-says : (m : Mode) (x u v : ℕ) → AllKept L cell (joinRules m x u v) k ↔ (at x ≡ joined m (at u) (at v))
+    unfolding bodyValue headValue joinRules joined
+    join-says diamond x u v = simp (kept-always, unused) (omega arith)
+    join-says box x u v = simp (kept-always, unused) (omega arith)
+
+    -- Test. Under a box the four rules leave the implication alone.
+    pub test-says : (m : Mode) (x a c : ℕ) → a < 16_384 → c < 16_384
+        → AllKept L cell (testRules m x a c) k ↔ (at x ≡ gate m (at a) (at c))
+    unfolding bodyValue headValue testRules gate
+    test-says diamond x a c al cl = simp (kept-always, unused) (omega arith)
+    test-says box x a c al cl =
+        let x2 = literal-low cell low x k in
+        let a2 = literal-low cell low a k in
+        let c2 = literal-low cell low c k in
+        simp (kept-always, unused, literal-negated, negation-value)
+        (elim (by-comparison (at a) (at c)) [ inl p ↦ omega arith | inr p ↦ omega arith ])
+
+    -- Two rules and a third.
+    beside-placed : (p u v : ℕ) (m : Mode) (q x : ℕ) → AllKept L cell (sameRules p u v ++ (edgeRule m q x ∷ [])) k
+        ↔ ((placed L p k ≡ true → at u ≡ at v) × (placed L q k ≡ true → at x ≡ edge m))
+    beside-placed p u v m q x = Iff·trans (append-kept L cell (sameRules p u v) (edgeRule m q x ∷ []) k)
+        (simp (same-placed, edge-placed) (λ (a, (b, _)). (a, b), λ (a, b). (a, (b, tt))))
+
+  module _ (m : Mode) (x c : ℕ) (xl : x < 16_384) (cl : c < 16_384) where
+    -- The row of a move over the continuation: at k what that is at j beside k, and if none is beside k, an edge.
+    abbrev row : Way → Row
+    row w = modalRow m L (moveSquare w) (literal cell c)
+
+    -- Where j is beside k.
+    row-there : (w : Way) (k j : ℕ) → j < L → Beside w k j → row w k ≡ literal cell c j
+    row-there w k j l b = modal-move m L w (literal cell c) k j l (literal-low cell low c j) b
+
+    -- Where none is.
+    row-edge : (w : Way) (k : ℕ) → ((j : ℕ) → j < L → ¬ (Beside w k j)) → row w k ≡ edge m
+    row-edge w k none = modal-edge m L w (literal cell c) k none
+
+    -- Move.
+    pub move-says : (w : Way) → Keeping L cell (moveRules w m x c) ↔ ((k : ℕ) → k < L → literal cell x k ≡ row w k)
+    unfolding moveRules placed Beside
+    move-says ahead = simp (beside-placed, ltb-holds, eqb-holds, literal-previous) (
+      λ h k l. elim (le-or-lt (k + 2) L) [
+        | inl n ↦ h (suc k) (omega arith) .0 (omega arith) ∙ sym (row-there ahead k (suc k) (omega arith) (omega arith))
+        | inr n ↦ h k l .1 (omega arith) ∙ sym (row-edge ahead k (λ j i b. omega arith))
+      ],
+      λ h k l. (
+        λ z. h (pred k) (omega arith) ∙ row-there ahead (pred k) k l (omega arith),
+        λ e. h k l ∙ row-edge ahead k (λ j i b. omega arith),
+      ),
+    )
+    move-says back = simp (beside-placed, ltb-holds, eqb-holds, literal-previous) (
+      λ h k l. elim (le-or-lt 1 k) [
+        | inl z ↦ h k l .0 z ∙ sym (row-there back k (pred k) (omega arith) (omega arith))
+        | inr n ↦ h k l .1 (omega arith) ∙ sym (row-edge back k (λ j i b. omega arith))
+      ],
+      λ h k l. (
+        λ z. h k l ∙ row-there back k (pred k) (omega arith) (omega arith),
+        λ e. h k l ∙ row-edge back k (λ j i b. omega arith),
+      ),
+    )
