@@ -1,3 +1,4 @@
 -- The demands as theorems about the definitions of meaning.
 pub mod Filling
 pub mod Demand3
+pub mod Why
