@@ -11,3 +11,4 @@ pub mod Determined
 pub mod OneFilling
 pub mod FewRules
 pub mod Demand
+pub mod SecondLine

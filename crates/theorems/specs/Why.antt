@@ -21,7 +21,7 @@ use Rattle.theorems.specs.Demand3.{Accepted, OneFilling}
 -- The line follows where the star's body goes forward; where it goes back it can be false.
 pub record SecondLine : Type 0 where
   pub forward : (m : Mode) (L : ℕ) (cell : ℕ → ℕ → ℕ) (p : Path) (c : Row) → goes back p ≡ false → mayStand p ≡ false
-    → ((j : ℕ) → j < L → c j ≤ 2) → (k : ℕ) → suc k ≡ L → modalRow m L (starSquare L (squareOf L cell p)) c k ≡ c k
+      → ((j : ℕ) → j < L → c j ≤ 2) → (k : ℕ) → suc k ≡ L → modalRow m L (starSquare L (squareOf L cell p)) c k ≡ c k
   pub backward : (c : Row) × (c 1 ≡ 0) × (modalRow diamond 2 (starSquare 2 (moveSquare back)) c 1 ≡ 2)
 
 -- p, its test, the star, q, the diamond: the test, the star and the diamond may have any value, if it is the same.
@@ -34,5 +34,5 @@ pub record Standing : Type 0 where
 
 pub record Agreement : Type 0 where
   pub agrees : (s : List ℕ) (A L : ℕ) (cells : List ℕ) → Accepted s A → Trace A L cells → (one : OneFilling s A L cells)
-    → (judgeAnswer (words (translation s A)) (A + count s) L (one .filling) ≡ judged 0 1 0 0)
-    ↔ (valueAnswer s A L cells (replicate (count s * L) 0) .value ≡ 2)
+      → (judgeAnswer (words (translation s A)) (A + count s) L (one .filling) ≡ judged 0 1 0 0)
+      ↔ (valueAnswer s A L cells (replicate (count s * L) 0) .value ≡ 2)
