@@ -12,3 +12,4 @@ pub mod OneFilling
 pub mod FewRules
 pub mod Demand
 pub mod SecondLine
+pub mod Standing
