@@ -2,6 +2,7 @@
 pub mod Shape
 pub mod Cleared
 pub mod Shaped
+pub mod Every
 pub mod Keeping
 pub mod Literals
 pub mod Saying
