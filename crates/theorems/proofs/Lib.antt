@@ -14,3 +14,5 @@ pub mod FewRules
 pub mod Demand
 pub mod SecondLine
 pub mod Standing
+pub mod InForm
+pub mod Agreement

@@ -1,6 +1,7 @@
 -- The second line for a star. Its label is the join of its continuation's and of a row of its body. At the last instant
--- a body that leads strictly ahead leads to no instant, so that row is an edge, and a join with an edge changes nothing.
--- A body that goes back leads from the last instant to the one before: a continuation that holds there alone shows it.
+-- a body that leads strictly ahead leads to no instant, so that row is an edge, and a join with an edge changes
+-- nothing. A body that goes back leads from the last instant to the one before: a continuation that holds there alone
+-- shows it.
 use Prim.Native.Nat.{ℕ, suc, _≤_, _<_}
 use mathlib.Core.Path.{_≡_, refl, _∙_}
 use mathlib.Core.Bool.{false, cond}

@@ -1,6 +1,6 @@
--- The rules of ⟨(p?)*⟩q, written all the same. They say that p's label is p and q's is q, that the test's is the smaller
--- of p's and the star's, the star's the greater of q's and the test's, and the diamond's is the star's. Where p is 2 and
--- q is 0, that asks of the last three only that they be the same value: so there are three fillings.
+-- The rules of ⟨(p?)*⟩q, written all the same. They say that p's label is p and q's is q, that the test's is the
+-- smaller of p's and the star's, the star's the greater of q's and the test's, and the diamond's is the star's. Where p
+-- is 2 and q is 0, that asks of the last three only that they be the same value: so there are three fillings.
 use Prim.Native.Nat.{ℕ, zero, suc, _≤_, _<_, zero-le, min, max}
 use mathlib.Core.Path.{_≡_, refl, sym, _∙_}
 use mathlib.Core.List.{List, [], _∷_, _++_}
