@@ -75,6 +75,8 @@ enum {
     PASTUREQUILL_WRONG_SIZE = 8,    /* over 32 atoms or 287 columns; instants not 1 to 32; another number of cells than these have */
     PASTUREQUILL_WRONG_CELL = 9,    /* a cell over 2 */
     PASTUREQUILL_NO_ROOM = 10,      /* output shorter than needed */
+    PASTUREQUILL_STAR_STANDS = 11,  /* a star's body may stand still (translating only) */
+    PASTUREQUILL_STAR_TURNS = 12,   /* a star's body has step and back step (translating only) */
     PASTUREQUILL_WRONG_RULES = 13   /* words not a multiple of 6 or over 6,126, a place over 3, no such symbol, previous outside place 2 */
 };
 
@@ -100,6 +102,23 @@ typedef struct {
  * Gives the first refusal that applies: 1; 8; for each record from the first 2, 3, 4, 5, 6; 6 for the last record; 7; 9; 10. */
 pasturequill_valued pasturequill_value(const uint8_t *records, size_t records_size, uint64_t atoms, uint64_t instants,
                                        const uint8_t *cells, size_t cells_size, uint8_t *table, size_t table_size);
+
+/* ---- translate
+ * Rules over the atoms and one label for each record: symbol 0 is false, 1 true, 2 + i atom i, 2 + atoms + r the label of record r. A rule's
+ * six words are told under judge below. Without the last rule, one filling of the labels meets the rules over any trace, and in it each
+ * formula's label has that formula's value; the last rule asserts the whole formula at the first instant. */
+typedef struct {
+    uint8_t refusal; /* 0, or the number of the first refusal that applies */
+    uint64_t count;  /* the number of rules, at most four for each record and one; 0 on a refusal */
+} pasturequill_counted;
+
+/* The rules of a formula.
+ *   records, records_size   any bytes
+ *   atoms                   any number; 0 to 32 are taken
+ *   rules, rules_size       rules_size counts words; six words for each rule are written at its start, the rest stays; on a refusal all stays
+ * Gives the first refusal that applies: 1; 8; for each record from the first 2, 3, 4, 5, 6; 6 for the last record; 7; for each star from the
+ * first 12, 11; 10. */
+pasturequill_counted pasturequill_translate(const uint8_t *records, size_t records_size, uint64_t atoms, uint16_t *rules, size_t rules_size);
 
 /* ---- judge
  * A rule is six words: its place, two body literals, three head literals. Places: 0 every instant, 1 the first, 2 all but the first, 3 the

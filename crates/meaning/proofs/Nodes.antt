@@ -1,7 +1,7 @@
 -- The tree of a record from its children's. The list of trees grows at its end alone, so a record's tree stays as it was put there;
 -- and a node looks at a tree only where a field is a child, which in well-formed records is an earlier record.
 use Prim.Native.Nat.{ℕ, zero, suc, _<_}
-use mathlib.Core.Path.{_≡_, refl, _∙_}
+use mathlib.Core.Path.{_≡_, refl, ap, _∙_}
 use mathlib.Core.Bool.{Bool}
 use mathlib.Core.Logic.{⊎-elim}
 use mathlib.Core.List.{List}
@@ -14,7 +14,7 @@ use Rattle.meaning.specs.Record.{Shorthand, negated, both, either, impli
 use Rattle.meaning.specs.Record.{Use, unused, atomNumber, child, useA, useB, argumentA, argumentB, Sort, sortOf}
 use Rattle.meaning.specs.Record.{count, kindAt, fieldA, fieldB}
 use Rattle.meaning.specs.Shorthand.{expansion}
-use Rattle.meaning.specs.Tree.{Tree, noTree, asForm, asPath, nodeOf, trees, treeAt}
+use Rattle.meaning.specs.Tree.{Tree, noTree, asForm, asPath, nodeOf, trees, treeAt, formAt, pathAt}
 use Rattle.meaning.specs.WellFormed.{Fits, WellFormed}
 
 -- ---- the list of trees
@@ -91,6 +91,14 @@ tree-of {s} {A} w r l =
     let a = child-settled s A r (useA K) (fieldA s r) (w .first r l) in
     let b = child-settled s A r (useB K) (fieldB s r) (w .second r l) in
     tree-node s r ∙ node-agrees K _ _ _ _ a b
+
+-- So is its formula, or its path, by its kind.
+module _ {full : Bool} {s : List ℕ} {A r : ℕ} (w : WellFormed full s A) (l : r < count s) where
+  pub form-node : {K : Kind} → kindAt s r ≡ K → formAt s r ≡ asForm (nodeOf K (fieldA s r) (fieldB s r) (treeAt s))
+  form-node e = ap asForm (rw e at (tree-of w r l))
+
+  pub path-node : {K : Kind} → kindAt s r ≡ K → pathAt s r ≡ asPath (nodeOf K (fieldA s r) (fieldB s r) (treeAt s))
+  path-node e = ap asPath (rw e at (tree-of w r l))
 
 -- ---- the sort of a tree
 -- No sort is both.

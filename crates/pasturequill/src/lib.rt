@@ -1,8 +1,9 @@
 // The front door: the services as a C program calls them. No function here has a `requires`; each states its complete outcome,
 // the answer and every lent buffer, on every input. Document 01's words for these are in the crate `meaning`, in specs/Service.
 ghost use mathlib.Core.Path.{_≡_};
-ghost use Rattle.meaning.specs.Service.{checkAnswer, valueAnswer, valueAfter, judgeAnswer};
+ghost use Rattle.meaning.specs.Service.{checkAnswer, valueAnswer, valueAfter, translateAnswer, translateAfter, judgeAnswer};
 use rules::Judged;
+use translate::Counted;
 use value::Valued;
 
 // Check: 0 if the bytes are the records of a formula over so many atoms, else the number of the first refusal that applies.
@@ -27,6 +28,16 @@ pub extern "C" fn pasturequill_value(
     ensures table { λ v. ⌜ now (table .exit) ≡ valueAfter (now (records .entry)) atoms instants (now (cells .entry)) (now (table .entry)) ⌝ }
 {
     value::value(records, atoms, instants, cells, table)
+}
+
+// Translate: the number of rules, and in the output each rule's six words; the last rule asserts the whole formula.
+#[no_mangle]
+pub extern "C" fn pasturequill_translate(records: &[u8], atoms: u64, rules: &mut [u16]) -> Counted
+    ensures refusal { λ v. ⌜ v .refusal ≡ translateAnswer (now (records .entry)) atoms (now (rules .entry)) .refusal ⌝ }
+    ensures count { λ v. ⌜ v .count ≡ translateAnswer (now (records .entry)) atoms (now (rules .entry)) .count ⌝ }
+    ensures words { λ v. ⌜ now (rules .exit) ≡ translateAfter (now (records .entry)) atoms (now (rules .entry)) ⌝ }
+{
+    translate::translate(records, atoms, rules)
 }
 
 // Judge: whether every rule holds at all its instants of a filled trace, and else the first rule that fails and its first failing instant.

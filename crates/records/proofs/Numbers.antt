@@ -27,7 +27,7 @@ unfolding kindOf kinds
 atom-kind = refl
 
 -- Two numbers, a and the next.
-either-of : (a n : ℕ) → a ≤ n → n < a + 2 → (n ≡ a) ⊎ (n ≡ a + 1)
+pub either-of : (a n : ℕ) → a ≤ n → n < a + 2 → (n ≡ a) ⊎ (n ≡ a + 1)
 either-of a n h l = go (le-or-lt n a)
   where
     go : (n ≤ a) ⊎ (a < n) → (n ≡ a) ⊎ (n ≡ a + 1)

@@ -11,7 +11,7 @@ use Rattle.meaning.specs.Record.{Kind, constant, choice, sequence, kindOf, kind
 use Rattle.meaning.specs.Tree.{Tree, asForm, asPath, nodeOf, treeAt, formAt, pathAt}
 use Rattle.meaning.specs.Value.{Row, Square, valueOf, squareOf, modalRow, moveSquare, testSquare}
 use Rattle.meaning.specs.Value.{choiceSquare, sequenceSquare, starSquare}
-use Rattle.meaning.proofs.Nodes.{tree-of}
+use Rattle.meaning.proofs.Nodes.{form-node, path-node}
 use Rattle.records.specs.Code.{wayOf, modeOf}
 use Rattle.value.specs.Cells.{joinOf}
 use Rattle.value.specs.Valuing.{Asked}
@@ -30,11 +30,11 @@ module _ {s : List ℕ} {A L : ℕ} {cells : List ℕ} {r : ℕ} {t : List ℕ} 
   abbrev node : Kind → Tree
   node K = nodeOf K (fieldA s r) (fieldB s r) (treeAt s)
 
-  form-node : {K : Kind} → kindAt s r ≡ K → formAt s r ≡ asForm (node K)
-  form-node e = ap asForm (rw e at (tree-of (w .legal .formed) r (w .index)))
+  form-is : {K : Kind} → kindAt s r ≡ K → formAt s r ≡ asForm (node K)
+  form-is = form-node (w .legal .formed) (w .index)
 
-  path-node : {K : Kind} → kindAt s r ≡ K → pathAt s r ≡ asPath (node K)
-  path-node e = ap asPath (rw e at (tree-of (w .legal .formed) r (w .index)))
+  path-is : {K : Kind} → kindAt s r ≡ K → pathAt s r ≡ asPath (node K)
+  path-is = path-node (w .legal .formed) (w .index)
 
   -- ---- formulas
   constant-value : (n k : ℕ) → n < 2 → valueOf L (cellOf A cells) (asForm (node (constant (eqb n 1)))) k ≡ n * 2
@@ -44,25 +44,25 @@ module _ {s : List ℕ} {A L : ℕ} {cells : List ℕ} {r : ℕ} {t : List ℕ} 
   constant-value (suc (suc n)) k h = absurd (omega arith)
 
   pub value-constant : (k : ℕ) → kindByte s r < 2 → val r k ≡ kindByte s r * 2
-  value-constant k h = rw (form-node (constant-kind _ h)) (constant-value _ k h)
+  value-constant k h = rw (form-is (constant-kind _ h)) (constant-value _ k h)
 
   pub value-atom : (k : ℕ) → kindByte s r ≡ 2 → val r k ≡ cellOf A cells k (fieldA s r)
   unfolding nodeOf asForm valueOf
-  value-atom k e = rw (form-node (ap kindOf e ∙ atom-kind))
+  value-atom k e = rw (form-is (ap kindOf e ∙ atom-kind))
 
   pub value-modal : (k : ℕ) → 3 ≤ kindByte s r → kindByte s r < 5
       → val r k ≡ modalRow (modeOf (kindByte s r)) L (sq (fieldA s r)) (val (fieldB s r)) k
   unfolding nodeOf asForm valueOf
-  value-modal k h g = rw (form-node (modal-kind _ h g))
+  value-modal k h g = rw (form-is (modal-kind _ h g))
 
   -- ---- paths
   pub square-move : (k j : ℕ) → 5 ≤ kindByte s r → kindByte s r < 7 → sq r k j ≡ moveSquare (wayOf (kindByte s r)) k j
   unfolding nodeOf asPath squareOf
-  square-move k j h g = rw (path-node (move-kind _ h g))
+  square-move k j h g = rw (path-is (move-kind _ h g))
 
   pub square-test : (k j : ℕ) → kindByte s r ≡ 7 → sq r k j ≡ testSquare (val (fieldA s r)) k j
   unfolding nodeOf asPath squareOf
-  square-test k j e = rw (path-node (ap kindOf e ∙ test-kind))
+  square-test k j e = rw (path-is (ap kindOf e ∙ test-kind))
 
   join-square : (b : Bool) (k j : ℕ) → squareOf L (cellOf A cells) (asPath (node (cond b choice sequence))) k j
       ≡ (let p = sq (fieldA s r) in let q = sq (fieldB s r) in cond b (choiceSquare p q) (sequenceSquare L p q)) k j
@@ -73,8 +73,8 @@ module _ {s : List ℕ} {A L : ℕ} {cells : List ℕ} {r : ℕ} {t : List ℕ} 
   pub square-join : (k j : ℕ) → 8 ≤ kindByte s r → kindByte s r < 10
       → sq r k j ≡ joinOf (kindByte s r) L (sq (fieldA s r)) (sq (fieldB s r)) k j
   unfolding joinOf
-  square-join k j h g = rw (path-node (join-kind _ h g)) (join-square (eqb (kindByte s r) 8) k j)
+  square-join k j h g = rw (path-is (join-kind _ h g)) (join-square (eqb (kindByte s r) 8) k j)
 
   pub square-star : (k j : ℕ) → kindByte s r ≡ 10 → sq r k j ≡ starSquare L (sq (fieldA s r)) k j
   unfolding nodeOf asPath squareOf
-  square-star k j e = rw (path-node (ap kindOf e ∙ star-kind))
+  square-star k j e = rw (path-is (ap kindOf e ∙ star-kind))

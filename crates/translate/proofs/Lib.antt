@@ -1,0 +1,7 @@
+-- What the proofs of several functions cite.
+pub mod Standing
+pub mod Handing
+pub mod Found
+pub mod Rowing
+pub mod Appending
+pub mod Answering

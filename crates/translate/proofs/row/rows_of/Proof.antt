@@ -1,0 +1,106 @@
+-- `rows_of` meets its contract: by the kind.
+use Prim.Native.Nat.{ℕ, _<_, _≤_}
+use mathlib.Core.Path.{_≡_}
+use mathlib.Core.Logic.{⊎-elim}
+use native.Mathlib.Omega.{arith}
+use borrow.Author.Needs.{needs}
+use Rattle.meaning.specs.Record.{kinds, kindOf}
+use Rattle.meaning.specs.Translation.{rulesOf}
+use Rattle.records.proofs.Numbers.{modal-kind, move-kind}
+use Rattle.translate.proofs.row.rows_of.Statement.{statement}
+use Rattle.translate.proofs.row.rows_of.Tie as tie
+
+-- ---- the kinds that no other arm takes
+from-three : (n : ℕ) → (n ≡ 0 → ⊥) → (n ≡ 1 → ⊥) → (n ≡ 2 → ⊥) → 3 ≤ n
+from-three n p q r = omega arith
+
+nine : (n : ℕ) → 7 ≤ n → n < 11 → (n ≡ 7 → ⊥) → (n ≡ 8 → ⊥) → (n ≡ 10 → ⊥) → n ≡ 9
+nine n h l p q r = omega arith
+
+-- ---- the calls and the returns
+same-rows-requires : tie.Need-same-rows-requires
+same-rows-requires c κs = search needs
+
+same-rows-requires-2 : tie.Need-same-rows-requires-2
+same-rows-requires-2 c κs = search needs
+
+add-same-rows : tie.Need-add-same-rows
+add-same-rows c = search needs
+
+same-rows-requires-3 : tie.Need-same-rows-requires-3
+same-rows-requires-3 c κs = search needs
+
+test-rows-requires : tie.Need-test-rows-requires
+test-rows-requires c κs = search needs
+
+join-rows-requires : tie.Need-join-rows-requires
+join-rows-requires c κs = search needs
+
+join-rows-requires-2 : tie.Need-join-rows-requires-2
+join-rows-requires-2 c κs = search needs
+
+move-rows-requires : tie.Need-move-rows-requires
+move-rows-requires c κs = search needs
+
+same-rows-requires-4 : tie.Need-same-rows-requires-4
+same-rows-requires-4 c κs = search needs
+
+returns : tie.Need-returns
+unfolding kindOf kinds rulesOf
+returns c = rw (c .before .match .keys1) (c .same-rows .ensures)
+
+returns-2 : tie.Need-returns-2
+unfolding kindOf kinds rulesOf
+returns-2 c = rw (c .before .match .keys2) (c .same-rows2 .ensures)
+
+returns-3 : tie.Need-returns-3
+unfolding kindOf kinds rulesOf
+returns-3 c = rw (c .before .match .keys3) (c .same-rows3 .ensures)
+
+returns-4 : tie.Need-returns-4
+unfolding kindOf kinds rulesOf
+returns-4 c = rw (c .before .match .keys4) (c .test-rows .ensures)
+
+returns-5 : tie.Need-returns-5
+unfolding kindOf kinds rulesOf
+returns-5 c = rw (c .before .match .keys5) (c .join-rows .ensures)
+
+returns-6 : tie.Need-returns-6
+unfolding kindOf kinds rulesOf
+returns-6 c = rw (c .before .match .keys6) (c .join-rows2 .ensures)
+
+returns-7 : tie.Need-returns-7
+unfolding rulesOf
+returns-7 c = rw (move-kind _ (c .before .before .if1 .left) (c .before .if2 .taken)) (c .move-rows .ensures)
+
+returns-8 : tie.Need-returns-8
+unfolding kindOf kinds rulesOf
+returns-8 c =
+    let at = c .before .before in
+    let ((((((_, p0), p1), p2), p7), p8), p10) = at .match .rest in
+    ⊎-elim
+    (λ w. rw (modal-kind _ (from-three _ p0 p1 p2) (w .taken)) (c .same-rows4 .ensures))
+    (λ w. rw (nine _ (w .1 .left) (at .before .pre .0) p7 p8 p10) (c .same-rows4 .ensures))
+    (c .before .if1 .came)
+
+pub rows-of-spec : {M : Type 1} → statement M
+rows-of-spec =
+    tie.close
+    (tie.spec
+    same-rows-requires
+    same-rows-requires-2
+    add-same-rows
+    same-rows-requires-3
+    test-rows-requires
+    join-rows-requires
+    join-rows-requires-2
+    move-rows-requires
+    same-rows-requires-4
+    returns
+    returns-2
+    returns-3
+    returns-4
+    returns-5
+    returns-6
+    returns-7
+    returns-8)

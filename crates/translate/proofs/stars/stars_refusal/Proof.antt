@@ -1,0 +1,65 @@
+-- `stars::stars_refusal` meets its contract: before record r, no star's ground applies.
+use Prim.Native.Nat.{_-_, _≤_}
+use mathlib.Core.Path.{sym, _∙_}
+use mathlib.Core.List.{[], _∷_}
+use native.Mathlib.Omega.{arith}
+use borrow.Author.Needs.{needs}
+use Rattle.meaning.specs.Run.{each}
+use Rattle.meaning.specs.Refusal.{ground11, ground12, starGrounds}
+use Rattle.meaning.proofs.First.{Clear, scan-none, scan-more, scan-found, scan-done, none-clear}
+use Rattle.translate.proofs.Standing.{star-numbered}
+use Rattle.translate.proofs.stars.stars_refusal.Statement.{statement}
+use Rattle.translate.proofs.stars.stars_refusal.Tie as tie
+
+abbrev Inv-loop : tie.InvT-loop
+Inv-loop s n r₀ r = (r ≤ n) × Clear (each r (λ q. ground12 s q ∷ ground11 s q ∷ []))
+
+abbrev μ-loop : tie.MeasureT-loop
+μ-loop s n r₀ r = n - r
+
+record-count-requires : tie.Need-record-count-requires Inv-loop μ-loop
+record-count-requires c κs = search needs
+
+loop-holds : tie.Need-loop-holds Inv-loop μ-loop
+loop-holds c = (search needs, scan-none _)
+
+star-refusal-requires : tie.Need-star-refusal-requires Inv-loop μ-loop
+star-refusal-requires c κs = search needs
+
+returns : tie.Need-returns Inv-loop μ-loop
+unfolding starGrounds
+returns c =
+    scan-found _ _ _ (omega arith) (c .before .before .before .loop .inv .1) (c .before .star-refusal .ensures)
+    (c .if1 .taken)
+
+add-r : tie.Need-add-r Inv-loop μ-loop
+add-r c = search needs
+
+loop-less : tie.Need-loop-less Inv-loop μ-loop
+loop-less c = search needs
+
+loop-again : tie.Need-loop-again Inv-loop μ-loop
+loop-again c = (
+  omega arith,
+  scan-more _ _ (c .before .before .before .loop .inv .1)
+      (none-clear _ (star-numbered _ _) (sym (c .before .star-refusal .ensures) ∙ c .if1 .left)),
+)
+
+returns-2 : tie.Need-returns-2 Inv-loop μ-loop
+unfolding starGrounds
+returns-2 c = scan-done _ _ _ (omega arith) (c .before .loop .inv .1)
+
+pub stars-refusal-spec : {M : Type 1} → statement M
+stars-refusal-spec =
+    tie.close
+    (tie.spec
+    Inv-loop
+    μ-loop
+    record-count-requires
+    loop-holds
+    star-refusal-requires
+    returns
+    add-r
+    loop-less
+    loop-again
+    returns-2)

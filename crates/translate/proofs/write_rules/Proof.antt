@@ -1,0 +1,126 @@
+-- `write_rules` meets its contract: behind r records their rules stand at the front, and the last rule follows them.
+use Prim.Native.Nat.{_-_, _<_, _≤_}
+use mathlib.Core.Path.{_≡_}
+use native.Mathlib.Omega.{arith}
+use borrow.Author.Needs.{needs}
+use Rattle.meaning.specs.Run.{each}
+use Rattle.meaning.specs.Record.{count}
+use Rattle.meaning.specs.Translation.{rulesAt}
+use Rattle.translate.proofs.Rowing.{record-few}
+use Rattle.translate.proofs.Appending.{Begun, begun-none, begun-more, begun-room, begun-length, begun-done}
+use Rattle.translate.proofs.Appending.{each-more, rowed-long, room-more, room-last}
+use Rattle.translate.proofs.write_rules.Statement.{statement}
+use Rattle.translate.proofs.write_rules.Tie as tie
+
+abbrev Inv-loop : tie.InvT-loop
+Inv-loop records atoms modes conts out₀ n at₀ r₀ out at r = (r ≤ n) × Begun (each r (rulesAt records atoms)) out₀ out at
+
+abbrev μ-loop : tie.MeasureT-loop
+μ-loop records atoms modes conts out₀ n at₀ r₀ out at r = n - r
+
+-- ---- places: in the loop, and behind it
+abbrev start : tie.At-loop Inv-loop μ-loop → tie.Start Inv-loop μ-loop
+start c = c .before .before .before .before
+
+before-end : (c : tie.In-loop Inv-loop μ-loop) → c .before .loop .r < count (start (c .before) .args .records .now)
+before-end c = omega (arith, c .before .before .record-count .ensures)
+
+all : (c : tie.After-loop Inv-loop μ-loop)
+    → let a = start (c .before) .args in
+    Begun (each (count (a .records .now)) (rulesAt (a .records .now) (a .atoms))) (a .out .now) (c .before .loop .out)
+    (c .before .loop .at)
+all c =
+    let e : c .before .loop .r ≡ count (start (c .before) .args .records .now) =
+    omega (arith, c .before .before .record-count .ensures) in
+    rw e at (c .before .loop .inv .1)
+
+-- ---- the loop
+record-count-requires : tie.Need-record-count-requires Inv-loop μ-loop
+record-count-requires c κs = search needs
+
+loop-holds : tie.Need-loop-holds Inv-loop μ-loop
+loop-holds c = (omega arith, begun-none _)
+
+record-rows-requires : tie.Need-record-rows-requires Inv-loop μ-loop
+record-rows-requires c κs = search needs
+
+put-rows-requires : tie.Need-put-rows-requires Inv-loop μ-loop
+put-rows-requires c κs =
+    let in-loop = c .before .before in
+    let a = start (in-loop .before) .args in
+    let r = in-loop .before .loop .r in
+    let w = c .before .record-rows .ensures in (
+      omega (arith, w .counted, record-few (a .records .now) (a .atoms) r),
+      rowed-long w,
+      begun-room (in-loop .before .loop .inv .1) w
+          (room-more (a .records .now) (a .atoms) (start (in-loop .before) .pre .2) r (before-end in-loop)),
+    )
+
+add-r : tie.Need-add-r Inv-loop μ-loop
+add-r c = search needs
+
+loop-less : tie.Need-loop-less Inv-loop μ-loop
+loop-less c = search needs
+
+loop-again : tie.Need-loop-again Inv-loop μ-loop
+loop-again c =
+    let put = c .before .before in
+    let rows = put .before .before in
+    let more = begun-more (rows .before .before .loop .inv .1) (rows .record-rows .ensures) (put .put-rows .ensures) in
+    (omega arith, rw each-more more)
+
+-- ---- the last rule
+sub-label : tie.Need-sub-label Inv-loop μ-loop
+sub-label c = search needs
+
+label-requires : tie.Need-label-requires Inv-loop μ-loop
+label-requires c κs = search needs
+
+assert-row-requires : tie.Need-assert-row-requires Inv-loop μ-loop
+assert-row-requires c κs = search needs
+
+put-rows-requires-2 : tie.Need-put-rows-requires-2 Inv-loop μ-loop
+put-rows-requires-2 c κs =
+    let done = c .before .before .before in
+    let s = start (done .before) in
+    let w = c .assert-row .ensures in (
+      omega (arith, w .counted),
+      rowed-long w,
+      begun-room (all done) w (room-last (s .args .records .now) (s .args .atoms) (s .pre .2) _),
+    )
+
+same-length : tie.Need-same-length Inv-loop μ-loop
+same-length c =
+    let put = c .before .before in
+    let done = put .before .before .before .before in
+    let s = start (done .before) in
+    begun-length (begun-more (all done) (put .before .assert-row .ensures) (put .put-rows2 .ensures))
+    (room-last (s .args .records .now) (s .args .atoms) (s .pre .2) _)
+
+returns : tie.Need-returns Inv-loop μ-loop
+returns c =
+    let put = c .before .before in
+    let label = put .before .before in
+    let done = label .before .before in
+    begun-done _ _ (all done) (omega (arith, label .label .ensures, done .before .before .record-count .ensures))
+    (put .before .assert-row .ensures) (put .put-rows2 .ensures)
+
+pub write-rules-spec : {M : Type 1} → statement M
+write-rules-spec =
+    tie.close
+    (tie.spec
+    Inv-loop
+    μ-loop
+    record-count-requires
+    loop-holds
+    record-rows-requires
+    put-rows-requires
+    add-r
+    loop-less
+    loop-again
+    sub-label
+    label-requires
+    assert-row-requires
+    put-rows-requires-2
+    same-length
+    returns)

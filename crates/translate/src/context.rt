@@ -1,0 +1,77 @@
+// What each path stands under: its modality's kind, and the record whose label continues it. Both go down the path from its modality, the
+// record number falling.
+ghost use mathlib.Core.Path.{_≡_};
+ghost use lib.ListN.{length};
+ghost use Rattle.translate.specs.Asking.{Formed};
+ghost use Rattle.translate.specs.Contexts.{Placed, Handed, AllHanded, firstCont, isModal};
+use records::layout;
+
+// Fills in the mode, 3 a diamond or 4 a box, and the continuation of every path record.
+pub fn find_contexts(records: &[u8], modes: &mut [u8; 255], conts: &mut [u8; 255])
+    requires { ⌜ Formed (now records) × (length (now modes) ≡ 255) × (length (now conts) ≡ 255) ⌝ }
+    ensures { λ _. ⌜ AllHanded (now (records .entry)) (now (modes .exit)) (now (conts .exit)) ⌝ }
+{
+    let n = layout::record_count(records);
+    let mut q: usize = 0;
+    while q < n {
+        let kind = layout::kind_at(records, q);
+        if is_modal(kind) {
+            hand_down(
+                records,
+                kind,
+                layout::field_b(records, q),
+                layout::field_a(records, q),
+                modes,
+                conts,
+            );
+        }
+        q += 1;
+    }
+}
+
+fn is_modal(kind: u8) -> bool
+    ensures { λ b. ⌜ b ≡ isModal kind ⌝ }
+{
+    if kind < 3 {
+        return false;
+    }
+    kind < 5
+}
+
+// The continuation of the first part of a choice, kind 8, or a sequence with the second part b.
+fn first_cont(kind: u8, b: usize, c: usize) -> usize
+    ensures { λ d. ⌜ d ≡ firstCont kind b c ⌝ }
+{
+    if kind == 8 {
+        return c;
+    }
+    b
+}
+
+// Hands the mode and the continuation c to path p and on to its parts.
+fn hand_down(
+    records: &[u8],
+    mode: u8,
+    c: usize,
+    p: usize,
+    modes: &mut [u8; 255],
+    conts: &mut [u8; 255],
+)
+    requires { ⌜ Placed (now records) mode c p × (length (now modes) ≡ 255) × (length (now conts) ≡ 255) ⌝ }
+    ensures { λ _. ⌜ Handed (now (records .entry)) p (now (modes .entry)) (now (conts .entry)) (now (modes .exit)) (now (conts .exit)) ⌝ }
+{
+    modes[p] = mode;
+    conts[p] = (c % 256) as u8;
+    let kind = layout::kind_at(records, p);
+    if kind < 8 {
+        return;
+    }
+    let a = layout::field_a(records, p);
+    if kind == 10 {
+        hand_down(records, mode, p, a, modes, conts);
+        return;
+    }
+    let b = layout::field_b(records, p);
+    hand_down(records, mode, first_cont(kind, b, c), a, modes, conts);
+    hand_down(records, mode, c, b, modes, conts);
+}

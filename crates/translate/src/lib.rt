@@ -1,0 +1,154 @@
+// Translating a formula into rules.
+mod context;
+mod row;
+mod stars;
+
+ghost use mathlib.Core.Path.{_≡_};
+ghost use mathlib.Core.Bool.{false};
+ghost use mathlib.Core.List.{_∷_, _++_};
+ghost use Prim.Native.Nat.{_*_, _+_, _<_, _≤_};
+ghost use lib.ListN.{length};
+ghost use Rattle.meaning.specs.Run.{each, written};
+ghost use Rattle.meaning.specs.Record.{count};
+ghost use Rattle.meaning.specs.Rule.{words, ruleSize};
+ghost use Rattle.meaning.specs.Translation.{rulesAt, translation};
+ghost use Rattle.meaning.specs.Refusal.{firstOf, ground1, ground8, treeGrounds, starGrounds};
+ghost use Rattle.meaning.specs.Service.{translateAnswer, translateAfter};
+ghost use Rattle.translate.specs.Asking.{Formed, Ready};
+ghost use Rattle.translate.specs.Contexts.{AllHanded, Moded};
+ghost use Rattle.translate.specs.Rows.{Rowed, Small, Pasted, Counts};
+use records::fault;
+use records::layout;
+use row::Rows;
+
+// The refusal, or 0 and the number of rules.
+#[repr(C)]
+pub struct Counted {
+    pub refusal: u8,
+    pub count: u64,
+}
+
+// The first refusal that applies; or the rules of the formula, six words each.
+pub fn translate(records: &[u8], atoms: u64, out: &mut [u16]) -> Counted
+    ensures refusal { λ v. ⌜ v .refusal ≡ translateAnswer (now (records .entry)) atoms (now (out .entry)) .refusal ⌝ }
+    ensures count { λ v. ⌜ v .count ≡ translateAnswer (now (records .entry)) atoms (now (out .entry)) .count ⌝ }
+    ensures words { λ v. ⌜ now (out .exit) ≡ translateAfter (now (records .entry)) atoms (now (out .entry)) ⌝ }
+{
+    let refusal = first_refusal(records, atoms);
+    if refusal != 0 {
+        return Counted { refusal, count: 0 };
+    }
+    let mut modes = [0u8; 255];
+    let mut conts = [0u8; 255];
+    context::find_contexts(records, &mut modes, &mut conts);
+    let n = rule_count(records, &modes);
+    if out.len() < 6 * n {
+        return Counted {
+            refusal: 10,
+            count: 0,
+        };
+    }
+    write_rules(records, atoms as usize, &modes, &conts, out);
+    Counted {
+        refusal: 0,
+        count: n as u64,
+    }
+}
+
+// Conditions in document 01's order, up to the stars: 1, 8, those of the records, 12 and 11 of each star.
+fn first_refusal(records: &[u8], atoms: u64) -> u8
+    ensures { λ x. ⌜ x ≡ firstOf (ground1 (now (records .entry)) ∷ ground8 atoms ∷ treeGrounds false (now (records .entry)) atoms ++ starGrounds (now (records .entry))) ⌝ }
+{
+    if fault::wrong_length(records) {
+        return 1;
+    }
+    if fault::too_many(atoms) {
+        return 8;
+    }
+    let x = fault::tree_refusal(records, false, atoms);
+    if x != 0 {
+        return x;
+    }
+    stars::stars_refusal(records)
+}
+
+// How many rules the translation has.
+fn rule_count(records: &[u8], modes: &[u8; 255]) -> usize
+    requires { ⌜ Formed (now records) × Moded (now records) (now modes) ⌝ }
+    ensures { λ n. ⌜ Counts (now (records .entry)) n ⌝ }
+{
+    let n = layout::record_count(records);
+    let mut rules: usize = 1;
+    let mut r: usize = 0;
+    while r < n {
+        rules += row::row_count(layout::kind_at(records, r), modes[r]);
+        r += 1;
+    }
+    rules
+}
+
+// Writes the rules of each record in turn, and at last the one that asserts the whole formula.
+fn write_rules(records: &[u8], atoms: usize, modes: &[u8; 255], conts: &[u8; 255], out: &mut [u16])
+    requires { ⌜ Ready (now records) atoms × AllHanded (now records) (now modes) (now conts) × (ruleSize * length (translation (now records) atoms) ≤ length (now out)) ⌝ }
+    ensures { λ _. ⌜ now (out .exit) ≡ written (words (translation (now (records .entry)) atoms)) (now (out .entry)) ⌝ }
+{
+    let n = layout::record_count(records);
+    let mut at: usize = 0;
+    let mut r: usize = 0;
+    while r < n {
+        let rows = record_rows(records, atoms, modes, conts, r);
+        at = put_rows(out, at, rows);
+        r += 1;
+    }
+    put_rows(out, at, row::assert_row(label(atoms, n - 1)));
+}
+
+// The symbol of record r's label.
+fn label(atoms: usize, r: usize) -> u16
+    requires { ⌜ (atoms ≤ 32) × (r < 256) ⌝ }
+    ensures { λ x. ⌜ x ≡ 2 + atoms + r ⌝ }
+{
+    ((2 + atoms + r) % 65536) as u16
+}
+
+// The symbol of the continuation c's label.
+fn cont_label(atoms: usize, c: u8) -> u16
+    requires { ⌜ atoms ≤ 32 ⌝ }
+    ensures { λ x. ⌜ (x ≡ 2 + atoms + c) × Small x ⌝ }
+{
+    label(atoms, c as usize)
+}
+
+// The rules of record r.
+fn record_rows(records: &[u8], atoms: usize, modes: &[u8; 255], conts: &[u8; 255], r: usize) -> Rows
+    requires { ⌜ Ready (now records) atoms × AllHanded (now records) (now modes) (now conts) × (r < count (now records)) ⌝ }
+    ensures { λ w. ⌜ Rowed (w .words) (w .count) (rulesAt (now (records .entry)) atoms r) ⌝ }
+{
+    let kind = layout::kind_at(records, r);
+    let a = layout::field_a(records, r);
+    let b = layout::field_b(records, r);
+    row::rows_of(
+        kind,
+        modes[r],
+        label(atoms, r),
+        label(atoms, a),
+        label(atoms, b),
+        cont_label(atoms, conts[r]),
+        (a % 256) as u16,
+    )
+}
+
+// Copies the rows to the output at a place, and gives the place behind them.
+fn put_rows(out: &mut [u16], at: usize, rows: Rows) -> usize
+    requires { ⌜ (rows .count ≤ 4) × (6 * rows .count ≤ length (rows .words)) × (at + 6 * rows .count ≤ length (now out)) ⌝ }
+    ensures { λ e. ⌜ Pasted (now (out .entry)) at (rows .words) (rows .count) e (now (out .exit)) ⌝ }
+{
+    let words = rows.words;
+    let size = 6 * rows.count;
+    let mut j: usize = 0;
+    while j < size {
+        out[at + j] = words[j];
+        j += 1;
+    }
+    at + size
+}
