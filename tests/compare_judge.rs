@@ -5,19 +5,16 @@
 //! nothing in or around the rules and cells was written to.
 
 mod inputs;
+mod rules;
 
 use inputs::{hex, random_cells, Framed, Random};
+use rules::*;
 use std::collections::HashMap;
-use std::ops::Range;
 use std::process::exit;
 
-const RULE_SIZE: usize = 6;
 const MOST_RULES: usize = 1021;
 const MOST_WIDTH: usize = 287;
 const MOST_INSTANTS: usize = 32;
-
-const PREVIOUS: u16 = 16_384;
-const NEGATED: u16 = 32_768;
 
 /// What is handed to the library.
 #[derive(Clone)]
@@ -40,58 +37,9 @@ impl Input {
 
 // ---- rules over a filled trace (document 01, Translation and Judging rules)
 
-/// A word of a rule's body or head.
-struct Literal {
-    symbol: u16,
-    previous: bool,
-    negated: bool,
-}
-
-/// A literal is a symbol, plus one number for the previous instant, plus another for negation.
-fn literal(word: u16) -> Literal {
-    let negated = word >= NEGATED;
-    let rest = if negated { word - NEGATED } else { word };
-    let previous = rest >= PREVIOUS;
-    Literal { symbol: if previous { rest - PREVIOUS } else { rest }, previous, negated }
-}
-
-/// What a literal is worth at an instant; one of the previous instant is never asked at the first.
-fn worth(width: usize, cells: &[u8], word: u16, k: usize) -> u8 {
-    let Literal { symbol, previous, negated } = literal(word);
-    let value = match symbol {
-        0 => 0,
-        1 => 2,
-        _ => cells[(if previous { k - 1 } else { k }) * width + symbol as usize - 2],
-    };
-    match (negated, value) {
-        (false, _) => value,
-        (true, 0) => 2,
-        (true, _) => 0,
-    }
-}
-
-/// The instants of a place.
-fn instants_of(place: u16, instants: usize) -> Range<usize> {
-    match place {
-        0 => 0..instants,
-        1 => 0..1,
-        2 => 1..instants,
-        3 => instants - 1..instants,
-        _ => unreachable!("an accepted place is 0 to 3"),
-    }
-}
-
-fn imp(u: u8, v: u8) -> u8 {
-    if u <= v { 2 } else { v }
-}
-
 /// The first instant at which a rule fails, if it does at all.
 fn failing(width: usize, instants: usize, cells: &[u8], rule: &[u16]) -> Option<usize> {
-    instants_of(rule[0], instants).find(|&k| {
-        let values: Vec<u8> = rule[1..].iter().map(|&word| worth(width, cells, word, k)).collect();
-        let (body, head) = values.split_at(2);
-        imp(*body.iter().min().expect("two"), *head.iter().max().expect("three")) != 2
-    })
+    instants_of(rule[0], instants).find(|&k| !holds_at(width, cells, rule, k))
 }
 
 /// The first rule that fails, and its first failing instant.
