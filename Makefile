@@ -9,6 +9,6 @@ demo:
 test:
 	bash .ci/run
 
-# Speed beside three valuers and a judge in C, and the stack that the deepest formulas take.
+# Speed beside three valuers, a judge and a translator in C, and the stack that the deepest formulas take.
 bench:
 	bash bench/run
