@@ -73,6 +73,13 @@ static inline void follow(const uint32_t *restrict p, const uint32_t *restrict q
     }
 }
 
+/* A test before a path, for one of the two masks, in place: nothing leads on from an instant without the bit. */
+static inline void cap(uint32_t *p, uint32_t tested)
+{
+    for (size_t k = 0; k < MOST; k++)
+        p[k] = (tested & bit[k]) != 0 ? p[k] : 0;
+}
+
 /* The star for one of the two masks, in place: staying, then each instant in turn allowed on the way. */
 static inline void repeat(size_t instants, uint32_t *p)
 {
@@ -137,6 +144,15 @@ static void value_path(const struct input *in, size_t r, square *out)
     }
     case SEQUENCE: {
         square p, q;
+        const uint8_t *first = in->records + 6 * a;
+        if (first[0] == TEST) {
+            memset(in->table + a * instants, 0, instants);
+            row f = value_formula(in, first[2]);
+            value_path(in, b, out);
+            cap(out->some, f.some);
+            cap(out->full, f.full);
+            break;
+        }
         value_path(in, a, &p);
         value_path(in, b, &q);
         follow(p.some, q.some, out->some);

@@ -41,6 +41,14 @@ static void follow(size_t instants, const square *restrict p, const square *rest
     memset(out->at[instants], 0, (MOST - instants) * MOST);
 }
 
+/* A test before a path, in place: from each instant no more than the tested value there. */
+static inline void cap(size_t instants, square *p, const uint8_t *values)
+{
+    for (size_t k = 0; k < instants; k++)
+        for (size_t j = 0; j < MOST; j++)
+            p->at[k][j] = p->at[k][j] < values[k] ? p->at[k][j] : values[k];
+}
+
 /* The star in place: staying is worth 2; then each instant in turn is allowed on the way. */
 static void repeat(size_t instants, square *p)
 {
@@ -89,6 +97,14 @@ static void value_path(const struct input *in, size_t r, square *out)
     }
     case SEQUENCE: {
         square p, q;
+        const uint8_t *first = in->records + 6 * a;
+        if (first[0] == TEST) {
+            memset(in->table + a * instants, 0, instants);
+            value_formula(in, first[2]);
+            value_path(in, b, out);
+            cap(instants, out, in->table + first[2] * instants);
+            break;
+        }
         value_path(in, a, &p);
         value_path(in, b, &q);
         follow(instants, &p, &q, out);

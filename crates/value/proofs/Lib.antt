@@ -10,6 +10,7 @@ pub mod Meant
 pub mod Table
 pub mod Children
 pub mod Recursion
+pub mod Tested
 pub mod Reached
 pub mod Tabled
 pub mod Filled

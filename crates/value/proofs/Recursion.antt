@@ -10,7 +10,7 @@ use lib.Dec.{eqb}
 use Rattle.meaning.specs.Run.{cellOf}
 use Rattle.meaning.specs.Record.{kindAt, kindByte, fieldA, fieldB, Sort, formula, path, sortOf, child, useA, useB}
 use Rattle.meaning.specs.Tree.{pathAt}
-use Rattle.meaning.specs.Value.{modalRow, moveSquare, testSquare, starSquare}
+use Rattle.meaning.specs.Value.{Square, modalRow, moveSquare, testSquare, starSquare}
 use Rattle.meaning.proofs.Onward.{square-bound}
 use Rattle.records.specs.Code.{modeOf, wayOf}
 use Rattle.value.specs.Cells.{at, rowAt, Holds, Put, joinOf}
@@ -19,7 +19,7 @@ use Rattle.meaning.proofs.Nodes.{differs}
 use Rattle.records.proofs.Numbers.{path-number, formula-number}
 use Rattle.value.proofs.Meant.{val, sq, value-constant, value-atom, value-modal}
 use Rattle.value.proofs.Meant.{square-move, square-test, square-join, square-star}
-use Rattle.value.proofs.Same.{holds-same, joined-same, star-same, modal-same}
+use Rattle.value.proofs.Same.{Agree, holds-same, joined-same, star-same, modal-same}
 use Rattle.value.proofs.Table.{under-all, steady-same, steady-lower, steady-then, put-right, put-steady}
 use Rattle.value.proofs.Children.{ask-first, ask-second}
 use Rattle.records.proofs.Held.{modal-first, modal-second, test-first, path-first, join-second}
@@ -99,22 +99,30 @@ module _ {s : List ℕ} {A L : ℕ} {cells : List ℕ} {r n : ℕ} {t : List ℕ
           holds-same h (λ k j _ _. rw num (sym (square-move w k j five (omega arith)))),
         )
 
+    -- A test has its formula's rows, and a square from its formula's row.
+    pub test-valued : {a : ℕ} {t₁ : List ℕ} → kindByte s r ≡ 7 → a ≡ fieldA s r → Valued s A L cells a t t₁
+        → Valued s A L cells r t t₁
+    test-valued {a} {t₁} seven fa v =
+        let ha = ask-first w (test-first (kindByte s r) seven) fa in
+        record {
+          steady = steady-lower (ha .0) (v .steady);
+          rows = path-rows (λ _ _ q u g. v .rows q (rw fa u) g)
+              (λ σ u. absurd (move-second _ (omega arith) (omega arith) σ u));
+        }
+
+    pub test-agrees : {a start : ℕ} {t₁ : List ℕ} → kindByte s r ≡ 7 → a ≡ fieldA s r → start ≡ a * L
+        → Right s A L cells t₁ a → Agree L (testSquare (rowAt t₁ start)) (sq w r)
+    unfolding testSquare
+    test-agrees seven fa fs right k j m _ =
+        ap (λ (x : ℕ). cond (eqb j k) x 0) (rw (fs, ← fa) (right .values k m)) ∙ sym (square-test w k j seven)
+
     pub test-done : {a start : ℕ} {bytes t₁ : List ℕ} → n ≡ 7 → a ≡ fieldA s r → start ≡ a * L
         → Valued s A L cells a t t₁ → Holds L bytes (testSquare (rowAt t₁ start))
         → Valued s A L cells r t t₁ × Squared s A L cells r bytes
-    unfolding testSquare
-    test-done {a} {start} {bytes} {t₁} e fa fs v h =
+    test-done {a} e fa fs v h =
         let seven : kindByte s r ≡ 7 = sym num ∙ e in
         let ha = ask-first w (test-first (kindByte s r) seven) fa in
-        let right-a = v .rows a Under.itself (ha .1 .1) in (
-          record {
-            steady = steady-lower (ha .0) (v .steady);
-            rows = path-rows (λ _ _ q u g. v .rows q (rw fa u) g)
-                (λ σ u. absurd (move-second _ (omega arith) (omega arith) σ u));
-          },
-          holds-same h (λ k j m _.
-              ap (λ (x : ℕ). cond (eqb j k) x 0) (rw (fs, ← fa) (right-a .values k m)) ∙ sym (square-test w k j seven)),
-        )
+        (test-valued seven fa v, holds-same h (test-agrees seven fa fs (v .rows a Under.itself (ha .1 .1))))
 
     -- A path's square has values, which the star's closure asks for.
     pub square-low : (a : ℕ) {bytes : List ℕ} → Squared s A L cells a bytes
@@ -137,9 +145,9 @@ module _ {s : List ℕ} {A L : ℕ} {cells : List ℕ} {r n : ℕ} {t : List ℕ
               star-same L (at bytes) (sq w a) (q .cells) k j m o ∙ rw fa (sym (square-star w k j ten))),
         )
 
-    pub join-done : {a b : ℕ} {x y new t₁ t₂ : List ℕ} → 8 ≤ n → n < 10 → a ≡ fieldA s r → b ≡ fieldB s r
-        → Valued s A L cells a t t₁ → Squared s A L cells a x → Valued s A L cells b t₁ t₂ → Squared s A L cells b y
-        → Holds L new (joinOf n L (at x) (at y)) → Valued s A L cells r t t₂ × Squared s A L cells r new
+    pub join-done : {a b : ℕ} {x y : Square} {new t₁ t₂ : List ℕ} → 8 ≤ n → n < 10 → a ≡ fieldA s r → b ≡ fieldB s r
+        → Valued s A L cells a t t₁ → Agree L x (sq w a) → Valued s A L cells b t₁ t₂ → Agree L y (sq w b)
+        → Holds L new (joinOf n L x y) → Valued s A L cells r t t₂ × Squared s A L cells r new
     join-done {a} {b} {x} {y} l m fa fb v₁ qa v₂ qb h =
         let ha = ask-first w (path-first (kindByte s r) (omega arith) (omega arith)) fa in
         let hb = ask-second w (join-second (kindByte s r) (omega arith) (omega arith)) fb in (
@@ -149,6 +157,6 @@ module _ {s : List ℕ} {A L : ℕ} {cells : List ℕ} {r n : ℕ} {t : List ℕ
                 (λ _ _ q u g. v₂ .rows q (rw fb u) g);
           },
           holds-same h (λ k j o z.
-              joined-same L n (at x) (sq w a) (at y) (sq w b) (qa .cells) (qb .cells) k j o z
+              joined-same L n x (sq w a) y (sq w b) qa qb k j o z
               ∙ rw (fa, fb, num) (sym (square-join w k j (omega arith) (omega arith)))),
         )

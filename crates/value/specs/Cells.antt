@@ -6,6 +6,7 @@
 --   Raised f u old new       a row of 32 values, each the greater of what it was and the smaller of f j and u
 --   Rowed k f old new        `new` is the square `old` with the values f j in row k
 --   joinOf                   a choice or a sequence, by the number of its kind
+--   capped f p               p from k to j, but no more than f k
 --   nextCell                 how far behind k * 33 the value of a move of the kind stands
 use Prim.Native.Nat.{ℕ, _+_, _*_, _<_, _≤_, min, max}
 use mathlib.Core.Path.{_≡_}
@@ -42,6 +43,9 @@ pub record Rowed (k : ℕ) (f : ℕ → ℕ) (old new : List ℕ) : Type 0 where
 
 unfoldable pub joinOf : ℕ → ℕ → Square → Square → Square
 joinOf kind L p q = cond (eqb kind 8) (choiceSquare p q) (sequenceSquare L p q)
+
+abbrev pub capped : (ℕ → ℕ) → Square → Square
+capped f p k j = min (p k j) (f k)
 
 unfoldable pub nextCell : ℕ → ℕ
 nextCell kind = cond (eqb kind 5) 1 32

@@ -1,11 +1,25 @@
 // Valuing a record: a formula's row calls for its path's square, and a test in the path for its formula's row. The record number falls.
 ghost use mathlib.Core.Path.{_≡_};
-ghost use Rattle.meaning.specs.Record.{formula, path, sortOf, kindAt};
+ghost use mathlib.Core.Bool.{_&&_};
+ghost use Prim.Native.Nat.{_<_};
+ghost use lib.Dec.{eqb};
+ghost use Rattle.meaning.specs.Record.{count, formula, path, sortOf, kindAt, kindByte};
 ghost use Rattle.value.specs.Valuing.{Asked, Valued, Squared};
 use crate::row;
 use crate::square;
 use crate::star;
 use records::layout;
+
+// Whether a path of the kind with the first part a is a sequence that begins with a test: it needs no square for the test.
+fn begins_with_test(records: &[u8], kind: u8, a: usize) -> bool
+    requires { ⌜ a < count (now records) ⌝ }
+    ensures { λ b. ⌜ b ≡ (eqb kind 9 && eqb (kindByte (now (records .entry)) a) 7) ⌝ }
+{
+    if kind == 9 {
+        return layout::kind_at(records, a) == 7;
+    }
+    false
+}
 
 // Writes the rows of formula r and of the formulas in it.
 pub fn value_formula(
@@ -56,6 +70,13 @@ pub fn path_square(
     if kind == 7 {
         value_formula(records, atoms, l, cells, a, table);
         return square::test_square(&table[..], row::row_start(a, l), l);
+    }
+    if begins_with_test(records, kind, a) {
+        let f = layout::field_a(records, a);
+        value_formula(records, atoms, l, cells, f, table);
+        let mut t = path_square(records, atoms, l, cells, layout::field_b(records, p), table);
+        square::cap(&mut t, &table[..], row::row_start(f, l), l);
+        return t;
     }
     let mut s = path_square(records, atoms, l, cells, a, table);
     if kind == 10 {

@@ -1,11 +1,11 @@
 // A path's square: 1,024 bytes, 32 to a row, the value from k to j at k * 32 + j. Where a loop runs over the 32 bytes of one row with the
 // other factor in a local, the compiler makes vector instructions of it.
 ghost use mathlib.Core.Path.{_≡_};
-ghost use Prim.Native.Nat.{ℕ, _+_, _<_, _≤_};
+ghost use Prim.Native.Nat.{ℕ, _+_, _<_, _≤_, min};
 ghost use lib.ListN.{length, getD};
 ghost use Rattle.meaning.specs.Value.{moveSquare, testSquare, choiceSquare, sequenceSquare};
 ghost use Rattle.records.specs.Code.{wayOf};
-ghost use Rattle.value.specs.Cells.{at, rowAt, Holds, Raised, Rowed, joinOf, nextCell};
+ghost use Rattle.value.specs.Cells.{at, rowAt, Holds, Raised, Rowed, capped, joinOf, nextCell};
 
 // ---- moves and tests: a diagonal each
 // How far behind k * 33 the value of a move stands: a step, kind 5, leads from k to k + 1, a back step from k + 1 to k.
@@ -124,6 +124,30 @@ fn put_row(s: &mut [u8; 1024], k: usize, row: &[u8; 32])
     let mut j: usize = 0;
     while j < 32 {
         s[k * 32 + j] = row[j];
+        j += 1;
+    }
+}
+
+// ---- a test before a path
+// The square of a path becomes that of a sequence: the test of the formula whose row starts at `start`, then the path.
+pub fn cap(s: &mut [u8; 1024], table: &[u8], start: usize, l: usize)
+    requires { ⌜ (l ≤ 32) × (start + l ≤ length (now table)) × (length (now s) ≡ 1024) ⌝ }
+    ensures { λ _. ⌜ Holds l (now (s .exit)) (capped (rowAt (now (table .entry)) start) (at (now (s .entry)))) ⌝ }
+{
+    let mut k: usize = 0;
+    while k < l {
+        cap_row(s, k, table[start + k]);
+        k += 1;
+    }
+}
+
+fn cap_row(s: &mut [u8; 1024], k: usize, u: u8)
+    requires { ⌜ (k < 32) × (length (now s) ≡ 1024) ⌝ }
+    ensures { λ _. ⌜ Rowed k (λ j. min (at (now (s .entry)) k j) u) (now (s .entry)) (now (s .exit)) ⌝ }
+{
+    let mut j: usize = 0;
+    while j < 32 {
+        s[k * 32 + j] = three::least(s[k * 32 + j], u);
         j += 1;
     }
 }

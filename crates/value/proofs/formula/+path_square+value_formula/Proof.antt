@@ -1,7 +1,7 @@
 -- `path_square` and `value_formula`, which call each other, meet their contracts. The measure of either is the number
 -- of its record, and a child is earlier, so each call is below its caller's measure. Each branch is a kind: its
 -- children are asked, and what comes back is put together by the law for that kind.
-use mathlib.Core.Path.{sym, _∙_}
+use mathlib.Core.Path.{_≡_, sym, _∙_}
 use native.Mathlib.Omega.{arith}
 use Rattle.meaning.specs.Record.{kindByte, Sort, formula, path}
 use Rattle.records.proofs.Numbers.{path-number, formula-number}
@@ -10,6 +10,7 @@ use Rattle.value.proofs.Children.{Child, ask-first, ask-second, ask-alo
 use Rattle.records.proofs.Held.{test-first, path-first, join-second, modal-first, modal-second}
 use Rattle.value.proofs.Recursion.{square-low, move-done, test-done, star-done, join-done}
 use Rattle.value.proofs.Recursion.{constant-done, atom-done, modal-done}
+use Rattle.value.proofs.Tested.{begins, tested-done}
 use borrow.Author.Needs.{needs}
 use Prim.Native.Nat.{ℕ, _<_, _≤_}
 use borrow.Fn.Kinds.{In, Out}
@@ -27,6 +28,8 @@ use Rattle.value.proofs.row.put_atom.Reads as put-atom-reads
 use Rattle.value.proofs.row.put_constant.Reads as put-constant-reads
 use Rattle.value.proofs.row.put_modal.Reads as put-modal-reads
 use Rattle.value.proofs.row.row_start.Reads as row-start-reads
+use Rattle.value.proofs.formula.begins_with_test.Reads as begins-with-test-reads
+use Rattle.value.proofs.square.cap.Reads as cap-reads
 use Rattle.value.proofs.square.join.Reads as join-reads
 use Rattle.value.proofs.square.move_square.Reads as move-square-reads
 use Rattle.value.proofs.square.test_square.Reads as test-square-reads
@@ -74,12 +77,16 @@ path-square-claims t = (
   row-start-reads.Learnt,
   test-square-reads.Asked,
   test-square-reads.Learnt,
-  path-square-below t,
-  path-square.Post,
-  close-reads.Asked,
-  close-reads.Learnt,
+  begins-with-test-reads.Asked,
+  begins-with-test-reads.Learnt,
   field-b-reads.Asked,
   field-b-reads.Learnt,
+  path-square-below t,
+  path-square.Post,
+  cap-reads.Asked,
+  cap-reads.Learnt,
+  close-reads.Asked,
+  close-reads.Learnt,
   join-reads.Asked,
   join-reads.Learnt,
 )
@@ -141,19 +148,46 @@ module _ (t : ℕ) where
       let n = eight c in
       ask-first (p-start (c .before) .pre .1 .0) (path-first _ (n .0) (n .1)) (c .before .field-a .ensures)
 
-  abbrev p-else : of-path path-square-lts.After-field-b → of-path path-square-lts.Else2
-  p-else c = c .before .before .before .before .before .before
+  -- A sequence that begins with a test: its kind and its first part's, the test's formula, and its second part.
+  abbrev p-tested : of-path path-square-lts.After-field-a2 → of-path path-square-lts.Else2
+  p-tested c = c .before .before .before
 
-  -- Its second part, where it is no star.
-  part-b : (c : of-path path-square-lts.After-field-b) → P-child (p-start (p-else c .before)) (c .field-b .result) path
+  test-begins : (c : of-path path-square-lts.After-field-a2)
+      → (p-tested c .before .before .before .kind-at .result ≡ 9)
+      × (kindByte (p-start (p-tested c .before) .args .records .now) (p-tested c .before .field-a .result) ≡ 7)
+  test-begins c = begins (c .before .before .begins-with-test .ensures) (c .before .if3 .taken)
+
+  tested-formula : (c : of-path path-square-lts.After-field-a2)
+      → let x = p-start (p-tested c .before) .args in
+      Child (x .records .now) (x .atoms) (x .l) (x .cells .now) (p-tested c .before .field-a .result) (c .field-a2 .result)
+      (x .table .now) formula
+  tested-formula c =
+      ask-first (part-a (p-tested c) .1 .0) (test-first _ (test-begins c .1)) (c .field-a2 .ensures)
+
+  abbrev p-tests : of-path path-square-lts.After-field-b → of-path path-square-lts.After-field-a2
+  p-tests c = c .before .before .before .before .before
+
+  tested-path : (c : of-path path-square-lts.After-field-b)
+      → P-child (p-start (p-tested (p-tests c) .before)) (c .field-b .result) path
+  tested-path c =
+      let else = p-tested (p-tests c) in
+      let nine = test-begins (p-tests c) .0 in
+      let num = else .before .before .before .kind-at .ensures in
+      ask-second (p-start (else .before) .pre .1 .0) (join-second _ (omega arith) (omega arith)) (c .field-b .ensures)
+
+  abbrev p-else : of-path path-square-lts.After-field-b2 → of-path path-square-lts.Else2
+  p-else c = c .before .before .before .before .before .before .before .before
+
+  -- The second part of a choice or of another sequence.
+  part-b : (c : of-path path-square-lts.After-field-b2) → P-child (p-start (p-else c .before)) (c .field-b2 .result) path
   part-b c =
       let else = p-else c in
       let x = p-start (else .before) .args in
-      let ten = c .before .if3 .left in
+      let ten = c .before .if4 .left in
       let n = eight else in
       let num = else .before .before .before .kind-at .ensures in
       let less : kindByte (x .records .now) (x .p) < 10 = omega arith in
-      ask-second (p-start (else .before) .pre .1 .0) (join-second _ (n .0) less) (c .field-b .ensures)
+      ask-second (p-start (else .before) .pre .1 .0) (join-second _ (n .0) less) (c .field-b2 .ensures)
 
   -- ---- places of value_formula
   abbrev of-formula : (value-formula-lts.Claims → In 3 value-formula-kinds.ps
@@ -239,19 +273,44 @@ module _ (t : ℕ) where
       test-done (s .pre .1 .0) (then .before .before .before .kind-at .ensures) (s .pre .1 .1) (then .if2 .taken)
       (then .before .field-a .ensures) (c .before .row-start .ensures) v (c .test-square .ensures)
 
+  path-square-begins-with-test-requires : of-path path-square-lts.Need-begins-with-test-requires
+  path-square-begins-with-test-requires c κs = part-a c .1 .0 .index
+
+  path-square-field-a-requires-2 : of-path path-square-lts.Need-field-a-requires-2
+  path-square-field-a-requires-2 c κs = part-a (c .before .before) .1 .0 .index
+
+  path-square-value-formula-requires-2 : of-path path-square-lts.Need-value-formula-requires-2
+  path-square-value-formula-requires-2 c κs =
+      let else = p-tested (c .before) in
+      let h = tested-formula (c .before) in
+      (omega (arith, h .0, part-a else .0, p-start (else .before) .pre .0), h .1)
+
+  path-square-field-b-requires : of-path path-square-lts.Need-field-b-requires
+  path-square-field-b-requires c κs = search needs
+
   path-square-path-square-requires : of-path path-square-lts.Need-path-square-requires
   path-square-path-square-requires c κs =
-      let h = part-a (c .before) in
-      (omega (arith, p-start (c .before .before) .pre .0), h .1)
+      let v = c .before .before .before .before .value-formula2 .ensures in
+      let h = tested-path (c .before) in (
+        omega (arith, p-start (p-tested (p-tests (c .before)) .before) .pre .0),
+        (ask-along (h .1 .0) (v .steady .size), h .1 .1),
+      )
 
-  path-square-close-requires : of-path path-square-lts.Need-close-requires
-  path-square-close-requires c κs =
-      let else = c .before .before .before .before .before .before in
-      let s = p-start (else .before) in
-      let q = c .before .before .before .before .path-square .ensures .1 in (
-        s .pre .1 .0 .legal .short,
-        q .size,
-        square-low (s .pre .1 .0) (else .before .before .before .kind-at .ensures) (s .pre .1 .1) _ q,
+  path-square-row-start-requires-2 : of-path path-square-lts.Need-row-start-requires-2
+  path-square-row-start-requires-2 c κs =
+      let w = tested-formula (p-tests (c .before .before .before .before .before .before)) .1 .0 in
+      omega (arith, w .index, w .legal .formed .few, w .legal .short)
+
+  path-square-cap-requires : of-path path-square-lts.Need-cap-requires
+  path-square-cap-requires c κs =
+      let on = c .before .before .before .before .before in
+      let fb = on .before .before in
+      let w = tested-formula (p-tests fb) .1 .0 in
+      let v = fb .before .before .before .value-formula2 .ensures in
+      let q = on .path-square .ensures in (
+        w .legal .short,
+        omega (arith, c .row-start2 .ensures, row-room w, v .steady .size, q .0 .steady .size),
+        q .1 .size,
       )
 
   path-square-same-length-2 : of-path path-square-lts.Need-same-length-2
@@ -259,39 +318,75 @@ module _ (t : ℕ) where
 
   path-square-returns-3 : of-path path-square-lts.Need-returns-3
   path-square-returns-3 c =
-      let else = c .before .before .before .before .before .before .before in
+      let on = c .before .before .before .before .before .before in
+      let fb = on .before .before in
+      let two = test-begins (p-tests fb) in
+      let else = p-tested (p-tests fb) in
       let s = p-start (else .before) in
-      let q = c .before .before .before .before .before .path-square .ensures in
-      star-done (s .pre .1 .0) (else .before .before .before .kind-at .ensures) (s .pre .1 .1)
-      (c .before .before .if3 .taken) (else .before .field-a .ensures) (q .0) (q .1) (c .close .ensures)
-
-  path-square-field-b-requires : of-path path-square-lts.Need-field-b-requires
-  path-square-field-b-requires c κs = search needs
+      let q = on .path-square .ensures in
+      tested-done (s .pre .1 .0) (else .before .before .before .kind-at .ensures) (s .pre .1 .1) (two .0)
+      (else .before .field-a .ensures) (two .1) (p-tests fb .field-a2 .ensures) (fb .field-b .ensures)
+      (c .before .row-start2 .ensures) (fb .before .before .before .value-formula2 .ensures) (q .0) (q .1)
+      (c .cap .ensures)
 
   path-square-path-square-requires-2 : of-path path-square-lts.Need-path-square-requires-2
   path-square-path-square-requires-2 c κs =
-      let v = c .before .before .before .before .before .path-square .ensures .0 in
-      let h = part-b (c .before) in
-      (omega (arith, p-start (p-else (c .before) .before) .pre .0), (ask-along (h .1 .0) (v .steady .size), h .1 .1))
+      let else = c .before .before .before in
+      let h = part-a else in
+      (omega (arith, p-start (else .before) .pre .0), h .1)
 
-  path-square-join-requires : of-path path-square-lts.Need-join-requires
-  path-square-join-requires c κs = search needs
+  path-square-close-requires : of-path path-square-lts.Need-close-requires
+  path-square-close-requires c κs =
+      let else = c .before .before .before .before .before .before .before .before in
+      let s = p-start (else .before) in
+      let q = c .before .before .before .before .path-square2 .ensures .1 in (
+        s .pre .1 .0 .legal .short,
+        q .size,
+        square-low (s .pre .1 .0) (else .before .before .before .kind-at .ensures) (s .pre .1 .1) _ q,
+      )
 
   path-square-same-length-3 : of-path path-square-lts.Need-same-length-3
   path-square-same-length-3 c = search needs
 
   path-square-returns-4 : of-path path-square-lts.Need-returns-4
   path-square-returns-4 c =
+      let else = c .before .before .before .before .before .before .before .before .before in
+      let s = p-start (else .before) in
+      let q = c .before .before .before .before .before .path-square2 .ensures in
+      star-done (s .pre .1 .0) (else .before .before .before .kind-at .ensures) (s .pre .1 .1)
+      (c .before .before .if4 .taken) (else .before .field-a .ensures) (q .0) (q .1) (c .close .ensures)
+
+  path-square-field-b-requires-2 : of-path path-square-lts.Need-field-b-requires-2
+  path-square-field-b-requires-2 c κs = search needs
+
+  path-square-path-square-requires-3 : of-path path-square-lts.Need-path-square-requires-3
+  path-square-path-square-requires-3 c κs =
+      let v = c .before .before .before .before .before .path-square2 .ensures .0 in
+      let h = part-b (c .before) in
+      (omega (arith, p-start (p-else (c .before) .before) .pre .0), (ask-along (h .1 .0) (v .steady .size), h .1 .1))
+
+  path-square-join-requires : of-path path-square-lts.Need-join-requires
+  path-square-join-requires c κs =
+      let fb = c .before .before .before .before .before .before in (
+        p-start (p-else fb .before) .pre .1 .0 .legal .short,
+        fb .before .before .before .before .path-square2 .ensures .1 .size,
+      )
+
+  path-square-same-length-4 : of-path path-square-lts.Need-same-length-4
+  path-square-same-length-4 c = search needs
+
+  path-square-returns-5 : of-path path-square-lts.Need-returns-5
+  path-square-returns-5 c =
       let fb = c .before .before .before .before .before .before .before in
       let else = p-else fb in
       let s = p-start (else .before) in
       let n = eight else in
       let num = else .before .before .before .kind-at .ensures in
-      let ten = fb .before .if3 .left in
-      let x = fb .before .before .before .before .path-square .ensures in
-      let y = c .before .before .before .before .before .path-square2 .ensures in
+      let ten = fb .before .if4 .left in
+      let x = fb .before .before .before .before .path-square2 .ensures in
+      let y = c .before .before .before .before .before .path-square3 .ensures in
       join-done (s .pre .1 .0) num (s .pre .1 .1) (omega arith) (omega arith) (else .before .field-a .ensures)
-      (fb .field-b .ensures) (x .0) (x .1) (y .0) (y .1) (c .join .ensures)
+      (fb .field-b2 .ensures) (x .0) (x .1 .cells) (y .0) (y .1 .cells) (c .join .ensures)
 
   -- ---- value_formula
   value-formula-kind-at-requires : of-formula value-formula-lts.Need-kind-at-requires
@@ -402,15 +497,24 @@ pub +path-square+value-formula-spec : {M : Type 1} → statement M
     (path-square-test-square-requires t)
     (path-square-same-length t)
     (path-square-returns-2 t)
+    (path-square-begins-with-test-requires t)
+    (path-square-field-a-requires-2 t)
+    (path-square-value-formula-requires-2 t)
+    (path-square-field-b-requires t)
     (path-square-path-square-requires t)
-    (path-square-close-requires t)
+    (path-square-row-start-requires-2 t)
+    (path-square-cap-requires t)
     (path-square-same-length-2 t)
     (path-square-returns-3 t)
-    (path-square-field-b-requires t)
     (path-square-path-square-requires-2 t)
-    (path-square-join-requires t)
+    (path-square-close-requires t)
     (path-square-same-length-3 t)
-    (path-square-returns-4 t))
+    (path-square-returns-4 t)
+    (path-square-field-b-requires-2 t)
+    (path-square-path-square-requires-3 t)
+    (path-square-join-requires t)
+    (path-square-same-length-4 t)
+    (path-square-returns-5 t))
     λ t. value-formula-lts.spec (value-formula-claims t)
     (value-formula-at t)
     value-formula.Post

@@ -1,0 +1,56 @@
+-- A sequence that begins with a test. The test leads from an instant to itself alone, with its formula's value, so the
+-- sequence has the second path's values, but no more than that: no square for the test is needed.
+use Prim.Native.Nat.{ℕ, _*_, _<_, _≤_}
+use mathlib.Core.Path.{_≡_, refl, sym, subst, _∙_}
+use mathlib.Core.Bool.{Bool, true, false, _&&_, true≢false}
+use mathlib.Core.List.{List}
+use native.Mathlib.Nat.{le-trans, le-min, le-antisymm}
+use native.Mathlib.Omega.{arith}
+use lib.Dec.{eqb}
+use borrow.Author.Tests.{eqb-true}
+use Rattle.meaning.specs.Record.{kindAt, kindByte, fieldA, fieldB, path, sortOf}
+use Rattle.meaning.specs.Value.{Row, Square, testSquare, sequenceSquare}
+use Rattle.meaning.proofs.Bounds.{le-above}
+use Rattle.meaning.proofs.Reach.{only-there, value-there, there-bound, sequence-elim, sequence-intro}
+use Rattle.records.proofs.Held.{test-first, path-first, join-second}
+use Rattle.value.specs.Cells.{at, rowAt, Holds, capped, joinOf}
+use Rattle.value.specs.Valuing.{Under, Asked, Valued, Squared}
+use Rattle.value.proofs.Same.{Agree, holds-same}
+use Rattle.value.proofs.Children.{ask-first}
+use Rattle.value.proofs.Recursion.{test-valued, test-agrees, join-done}
+
+-- What the question for such a sequence says: x is its kind, y its first part's.
+pub begins : {x y : ℕ} {b : Bool} → b ≡ (eqb x 9 && eqb y 7) → b ≡ true → (x ≡ 9) × (y ≡ 7)
+begins {x} {y} e t = go (eqb x 9) refl (eqb y 7) refl (sym e ∙ t)
+  where
+    go : (c : Bool) → eqb x 9 ≡ c → (d : Bool) → eqb y 7 ≡ d → (c && d) ≡ true → (x ≡ 9) × (y ≡ 7)
+    go true f true g h = (eqb-true x 9 f, eqb-true y 7 g)
+    go true f false g h = absurd (true≢false (sym h))
+    go false f d g h = absurd (true≢false (sym h))
+
+-- ---- values
+capped-sequence : (L : ℕ) (f : Row) (q : Square) → Agree L (capped f q) (sequenceSquare L (testSquare f) q)
+unfolding testSquare
+capped-sequence L f q k j h l =
+    le-antisymm
+    (sequence-intro L (testSquare f) q k k j (capped f q k j) h (omega (arith, value-there k k (f k) refl)) (omega arith))
+    (le-above _ _ (λ v z a.
+    let (i, il, x, y) = sequence-elim L (testSquare f) q k j v z a in
+    le-min (subst (λ i. v ≤ q i j) (only-there i k (f k) (le-trans z x)) y) (le-trans x (there-bound i k (f k)))))
+
+module _ {s : List ℕ} {A L : ℕ} {cells : List ℕ} {r n : ℕ} {t : List ℕ} (w : Asked s A L cells r t)
+    (num : n ≡ kindByte s r) (p : sortOf (kindAt s r) ≡ path) where
+  pub tested-done : {a b f start : ℕ} {y new t₁ t₂ : List ℕ} → n ≡ 9 → a ≡ fieldA s r → kindByte s a ≡ 7
+      → f ≡ fieldA s a → b ≡ fieldB s r → start ≡ f * L
+      → Valued s A L cells f t t₁ → Valued s A L cells b t₁ t₂ → Squared s A L cells b y
+      → Holds L new (capped (rowAt t₂ start) (at y)) → Valued s A L cells r t t₂ × Squared s A L cells r new
+  unfolding joinOf
+  tested-done {a} {b} {f} {start} {y} {new} {t₁} {t₂} e fa seven ff fb fs v₁ v₂ q h =
+      let ha = ask-first w (path-first (kindByte s r) (omega arith) (omega arith)) fa in
+      let hf = ask-first (ha .1 .0) (test-first (kindByte s a) seven) ff in
+      let right = v₂ .steady .right f (v₁ .rows f Under.itself (hf .1 .1)) in
+      join-done w num p (omega arith) (omega arith) fa fb
+      (test-valued (ha .1 .0) refl (ha .1 .1) seven ff v₁)
+      (test-agrees (ha .1 .0) refl (ha .1 .1) seven ff fs right)
+      v₂ (q .cells)
+      (holds-same h (rw e (capped-sequence L (rowAt t₂ start) (at y))))
