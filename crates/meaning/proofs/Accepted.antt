@@ -10,8 +10,8 @@ use lib.ListN.{length}
 use Rattle.meaning.specs.Run.{each}
 use Rattle.meaning.specs.Record.{recordSize, mostRecords, count, kindAt, zeroByte, fieldA, fieldB, known}
 use Rattle.meaning.specs.Record.{Use, unused, atomNumber, child, useA, useB}
-use Rattle.meaning.specs.Refusal.{Ground, firstOf, recordGrounds, treeGrounds, checkGrounds, stray, late, beyond, misfit}
-use Rattle.meaning.specs.Refusal.{ground1, ground2, ground3, ground4, ground5, ground6, ground6-last, ground7, ground8}
+use Rattle.meaning.specs.Refusal.{Ground, firstOf, recordGrounds, treeGrounds, starGrounds, checkGrounds, starredGrounds, stray, late, beyond, misfit}
+use Rattle.meaning.specs.Refusal.{ground1, ground2, ground3, ground4, ground5, ground6, ground6-last, ground7, ground8, ground11, ground12}
 use Rattle.meaning.specs.WellFormed.{Fits, WellFormed}
 use Rattle.meaning.specs.Service.{checkAnswer}
 use Rattle.meaning.proofs.Fails.{tests}
@@ -98,3 +98,27 @@ module _ (full : Bool) (s : List ℕ) (A : ℕ) where
 pub check-accepts : (s : List ℕ) (A : ℕ) → (checkAnswer s A ≡ 0) ↔ WellFormed false s A
 unfolding checkAnswer checkGrounds
 check-accepts = accepted false
+
+-- ---- with the stars' grounds
+module _ (s : List ℕ) (A : ℕ) (e : firstOf (starredGrounds s A) ≡ 0) where
+  -- Where the first number is 0, none applies, of check and of the stars:
+  both-clear : Clear (checkGrounds s A) × Clear (starGrounds s)
+  unfolding checkGrounds ground1 ground8 starGrounds ground11 ground12
+  both-clear =
+      let stars = numbered-each (λ r. ground12 s r ∷ ground11 s r ∷ []) (count s) (λ r. omega arith) in
+      let rest = numbered-append (treeGrounds false s A) (starGrounds s) (tree-numbered false s A) stars in
+      clear-append (checkGrounds s A) (starGrounds s) .0
+      (none-clear (starredGrounds s A) (omega arith, (omega arith, rest)) e)
+
+  -- the records are a tree,
+  pub starred-formed : WellFormed false s A
+  unfolding checkGrounds
+  starred-formed = clear-well-formed false s A .0 (both-clear .0)
+
+  -- and no star is refused.
+  pub stars-clear : (r : ℕ) → r < count s → Clear (ground12 s r ∷ ground11 s r ∷ [])
+  unfolding starGrounds
+  stars-clear = clear-each _ (count s) (both-clear .1)
+
+  pub starred-clear : Clear (starredGrounds s A)
+  starred-clear = clear-append (checkGrounds s A) (starGrounds s) .1 both-clear

@@ -9,12 +9,13 @@ use mathlib.Core.Logic.{inl, inr}
 use mathlib.Core.List.{List}
 use native.Mathlib.Omega.{arith}
 use lib.Dec.{eqb}
+use borrow.Author.Tests.{eq-eqb, ne-eqb}
 use Rattle.meaning.specs.Record.{Kind, constant, atom, modal, move, test, choice, sequence, star, shorthand, unknown}
-use Rattle.meaning.specs.Record.{count, kindAt, fieldA, fieldB, useA, useB, path, sortOf, known}
+use Rattle.meaning.specs.Record.{count, kindAt, fieldA, fieldB, Sort, child, useA, useB, path, sortOf, known}
 use Rattle.meaning.specs.Translation.{names, uses, parent, Context, under, handed, contextIn, context}
 use Rattle.meaning.specs.WellFormed.{Fits, WellFormed}
 use Rattle.meaning.proofs.Bounds.{le-or-lt}
-use Rattle.meaning.proofs.Parents.{has-parent, child-earlier, parent-is}
+use Rattle.meaning.proofs.Parents.{InSecond, first-used, second-used, one-field, has-parent, child-earlier, parent-is}
 
 module _ {s : List ℕ} {A : ℕ} (w : WellFormed false s A) where
   -- A path isn't the last record.
@@ -67,3 +68,17 @@ module _ {s : List ℕ} {A : ℕ} (w : WellFormed false s A) where
   context-handed r q l u =
       let later = child-earlier w r q l u in
       rw (← parent-is w r q l u) (climbs (count s) r (omega arith) (omega arith) .0)
+
+  -- So does its first child, and its second, which isn't the first.
+  module _ (q : ℕ) (l : q < count s) {σ : Sort} (a : useA (kindAt s q) ≡ child σ) where
+    pub first-context : context s (fieldA s q) ≡ handed (kindAt s q) true (fieldB s q) q (context s q)
+    first-context =
+        let h = context-handed (fieldA s q) q l (first-used s (fieldA s q) q (σ, a, refl)) in
+        rw (eq-eqb (fieldA s q) (fieldA s q) refl) at h
+
+    pub second-context : {τ : Sort} → useB (kindAt s q) ≡ child τ
+        → context s (fieldB s q) ≡ handed (kindAt s q) false (fieldB s q) q (context s q)
+    second-context {τ} b =
+        let named : InSecond s (fieldB s q) q = (τ, b, refl) in
+        let h = context-handed (fieldB s q) q l (second-used s (fieldB s q) q named) in
+        rw (ne-eqb (fieldA s q) (fieldB s q) (λ x. one-field w (fieldB s q) q l (σ, a, x) named)) at h

@@ -9,13 +9,13 @@ use Rattle.meaning.specs.Tree.{asForm, asPath, nodeOf, trees, treeAt, fo
 use Rattle.meaning.specs.Value.{moveSquare, testSquare, choiceSquare, sequenceSquare, passes, starSquare, diamondRow, boxRow, modalRow, valueOf, squareOf}
 use Rattle.meaning.specs.Rule.{words}
 use Rattle.meaning.specs.Translation.{names, uses, placesIn, parentIn, handed, contextIn, edgeRule, joinRules, testRules, moveRules, rulesOf, rulesAt, translation}
-use Rattle.meaning.specs.Refusal.{firstOf, ground1, ground2, stray, ground3, late, ground4, beyond, ground5, differ, misfit, ground6, ground6-last, ground7, ground8, ground8-cells, grounds9, ground10, isStar, ground11, ground12, ground14, recordGrounds, treeGrounds, starGrounds, expandGrounds, valueGrounds, translateGrounds}
+use Rattle.meaning.specs.Refusal.{firstOf, ground1, ground2, stray, ground3, late, ground4, beyond, ground5, differ, misfit, ground6, ground6-last, ground7, ground8, ground8-cells, grounds9, ground10, isStar, ground11, ground12, ground14, recordGrounds, treeGrounds, starGrounds, checkGrounds, expandGrounds, valueGrounds, translateGrounds}
 use Rattle.meaning.specs.Service.{expandAnswer, expandAfter, rowBy, rowOf, table, valueAnswer, valueAfter, translateAnswer, translateAfter}
 use Rattle.meaning.specs.Examples.{Starred, Others}
 
 -- Every definition that an example runs through.
 open-all : Unit {0}
-unfolding imp greatest least each tabulate written kinds kindOf sortOf argumentA argumentB useA useB known mayStand sameWay goes expansion asForm asPath nodeOf trees treeAt formSize pathSize modalNumber moveNumber formFrom pathFrom moveSquare testSquare choiceSquare sequenceSquare passes starSquare diamondRow boxRow modalRow valueOf squareOf words names uses placesIn parentIn handed contextIn edgeRule joinRules testRules moveRules rulesOf rulesAt translation firstOf ground1 ground2 stray ground3 late ground4 beyond ground5 differ misfit ground6 ground6-last ground7 ground8 ground8-cells grounds9 ground10 isStar ground11 ground12 ground14 recordGrounds treeGrounds starGrounds expandGrounds valueGrounds translateGrounds expandAnswer expandAfter rowBy rowOf table valueAnswer valueAfter translateAnswer translateAfter
+unfolding imp greatest least each tabulate written kinds kindOf sortOf argumentA argumentB useA useB known mayStand sameWay goes expansion asForm asPath nodeOf trees treeAt formSize pathSize modalNumber moveNumber formFrom pathFrom moveSquare testSquare choiceSquare sequenceSquare passes starSquare diamondRow boxRow modalRow valueOf squareOf words names uses placesIn parentIn handed contextIn edgeRule joinRules testRules moveRules rulesOf rulesAt translation firstOf ground1 ground2 stray ground3 late ground4 beyond ground5 differ misfit ground6 ground6-last ground7 ground8 ground8-cells grounds9 ground10 isStar ground11 ground12 ground14 recordGrounds treeGrounds starGrounds checkGrounds expandGrounds valueGrounds translateGrounds expandAnswer expandAfter rowBy rowOf table valueAnswer valueAfter translateAnswer translateAfter
 open-all = tt
 
 pub starred : Starred

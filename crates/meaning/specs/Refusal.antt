@@ -180,9 +180,12 @@ unfoldable pub valueGrounds : List ℕ → ℕ → ℕ → List ℕ → ℕ → 
 valueGrounds s A L cells room =
     ground1 s ∷ ground8-cells mostAtoms A L cells ∷ treeGrounds false s A ++ (grounds9 cells ++ (ground10 (count s * L) room ∷ []))
 
+-- What the translator asks of the formula, and then of the room.
+abbrev pub starredGrounds : List ℕ → ℕ → List Ground
+starredGrounds s A = checkGrounds s A ++ starGrounds s
+
 unfoldable pub translateGrounds : List ℕ → ℕ → ℕ → List Ground
-translateGrounds s A room =
-    ground1 s ∷ ground8 A ∷ treeGrounds false s A ++ (starGrounds s ++ (ground10 (ruleSize * length (translation s A)) room ∷ []))
+translateGrounds s A room = starredGrounds s A ++ (ground10 (ruleSize * length (translation s A)) room ∷ [])
 
 unfoldable pub judgeGrounds : List ℕ → ℕ → ℕ → List ℕ → List Ground
 judgeGrounds ws W L cells =

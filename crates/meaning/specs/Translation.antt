@@ -5,6 +5,7 @@
 --   context s r         what the path record r stands under: the modality's mode, and the record whose label continues it
 --   rulesOf ..          the rules of one record
 --   translation s A     all rules; the last asserts the whole formula
+--   ruleNumber, ruleSum how many rules come from one record, and from the first n
 use Prim.Native.Nat.{ℕ, zero, suc, pred, _+_}
 use mathlib.Core.Bool.{Bool, true, false, cond}
 use mathlib.Core.List.{List, [], _∷_, _++_}
@@ -134,3 +135,23 @@ asserted s A = rule 1 [] (label A (pred (count s)) ∷ [])
 
 unfoldable pub translation : List ℕ → ℕ → List Rule
 translation s A = each (count s) (rulesAt s A) ++ (asserted s A ∷ [])
+
+-- ---- how many
+-- Two for kinds 0 to 4 and 9, four for a test under a box, three otherwise. The translator takes no other kind.
+unfoldable pub ruleNumber : Kind → Mode → ℕ
+ruleNumber (constant v) m = 2
+ruleNumber atom m = 2
+ruleNumber (modal _) m = 2
+ruleNumber (move w) m = 3
+ruleNumber test diamond = 3
+ruleNumber test box = 4
+ruleNumber choice m = 3
+ruleNumber sequence m = 2
+ruleNumber star m = 3
+ruleNumber (shorthand σ) m = 0
+ruleNumber unknown m = 0
+
+-- The sum over the first n records.
+unfoldable pub ruleSum : List ℕ → ℕ → ℕ
+ruleSum s zero = 0
+ruleSum s (suc r) = ruleSum s r + ruleNumber (kindAt s r) (context s r .mode)

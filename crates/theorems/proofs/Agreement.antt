@@ -23,16 +23,15 @@ use Rattle.meaning.specs.WellFormed.{WellFormed}
 use Rattle.meaning.specs.Service.{Judged, judged, told, judgeAnswer, valueAnswer}
 use Rattle.meaning.proofs.Fails.{tests}
 use Rattle.meaning.proofs.First.{Clear, clear-none, clear-append, each-clear}
-use Rattle.meaning.proofs.Accepted.{clear-well-formed}
+use Rattle.meaning.proofs.Accepted.{clear-well-formed, starred-formed}
+use Rattle.meaning.proofs.RuleCount.{few-rules}
 use Rattle.meaning.proofs.Judging.{yes-means}
 use Rattle.theorems.specs.Filling.{Trace, Meets}
 use Rattle.theorems.specs.Demand3.{Accepted, OneFilling}
 use Rattle.theorems.specs.Why.{Agreement}
-use Rattle.theorems.proofs.Cleared.{accepted-formed}
 use Rattle.theorems.proofs.Shaped.{shapes}
 use Rattle.theorems.proofs.Every.{words-length, every-word}
 use Rattle.theorems.proofs.Keeping.{all-hold, append-kept}
-use Rattle.theorems.proofs.FewRules.{few-rules}
 use Rattle.theorems.proofs.InForm.{narrow, translation-formed}
 
 -- ---- grounds that do not apply
@@ -71,7 +70,7 @@ module _ {s : List ℕ} {A L : ℕ} {cells : List ℕ} (accepted : Accepted s A)
 
   -- The records are a tree.
   formed : WellFormed false s A
-  formed = accepted-formed s A accepted
+  formed = starred-formed s A accepted
 
   -- The words are those of whole rules, and not of too many.
   length-clear : ground13-length ws .applies ≡ false

@@ -10,7 +10,6 @@ pub mod Labelled
 pub mod Continuing
 pub mod Determined
 pub mod OneFilling
-pub mod FewRules
 pub mod Demand
 pub mod SecondLine
 pub mod Standing

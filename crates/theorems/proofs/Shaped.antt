@@ -5,17 +5,16 @@ use Prim.Native.Nat.{ℕ, _<_}
 use mathlib.Core.Path.{_≡_, refl, sym, ap}
 use mathlib.Core.Bool.{true, false, true≢false}
 use mathlib.Core.List.{List}
-use borrow.Author.Tests.{eq-eqb, ne-eqb}
 use Rattle.meaning.specs.Record.{Kind, constant, atom, modal, move, test, choice, sequence, star, shorthand, unknown}
 use Rattle.meaning.specs.Record.{count, kindAt, fieldA, fieldB, child, useA, useB, Sort, path, sortOf, known}
 use Rattle.meaning.specs.Tree.{pathAt}
 use Rattle.meaning.specs.Translation.{Context, handed, context}
 use Rattle.meaning.specs.WellFormed.{WellFormed}
-use Rattle.meaning.proofs.Parents.{InFirst, InSecond, first-used, second-used, one-field}
 use Rattle.theorems.specs.Demand3.{Accepted}
 use Rattle.theorems.proofs.Shape.{contAt, Child, Part, Shape}
-use Rattle.theorems.proofs.Cleared.{OneWay, accepted-formed, accepted-star}
-use Rattle.meaning.proofs.Climbing.{path-before, continuation-record, context-handed}
+use Rattle.theorems.proofs.Cleared.{OneWay, accepted-star}
+use Rattle.meaning.proofs.Accepted.{starred-formed}
+use Rattle.meaning.proofs.Climbing.{path-before, continuation-record, first-context, second-context}
 
 -- ---- children
 -- A child that is a path has the mode and the continuation of what it stands under.
@@ -38,19 +37,13 @@ module _ {s : List ℕ} {A : ℕ} (w : WellFormed false s A) (r : ℕ) (l : r < 
     -- What the record hands to a first child that is a path,
     first-part : useA K ≡ child path
         → let c = handed K true (fieldB s r) r (context s r) in Part s r (fieldA s r) (c .mode) (c .continuation)
-    first-part u =
-        let a : InFirst s (fieldA s r) r = (path, rw e u, refl) in
-        let h = context-handed w (fieldA s r) r l (first-used s (fieldA s r) r a) in
-        part-of (first-child u) (rw (e, eq-eqb (fieldA s r) (fieldA s r) refl) at h)
+    first-part u = part-of (first-child u) (rw e at (first-context w r l {σ = path} (rw e u)))
 
     -- and to a second one, which isn't the first.
     second-part : {σ : Sort} → useA K ≡ child σ → useB K ≡ child path
         → let c = handed K false (fieldB s r) r (context s r) in Part s r (fieldB s r) (c .mode) (c .continuation)
     second-part {σ} t u =
-        let b : InSecond s (fieldB s r) r = (path, rw e u, refl) in
-        let h = context-handed w (fieldB s r) r l (second-used s (fieldB s r) r b) in
-        let d = ne-eqb (fieldA s r) (fieldB s r) (λ x. one-field w (fieldB s r) r l (σ, rw e t, x) b) in
-        part-of (second-child u) (rw (e, d) at h)
+        part-of (second-child u) (rw e at (second-context w r l {σ = σ} (rw e t) {τ = path} (rw e u)))
 
     -- A path's continuation is a record.
     continued : sortOf K ≡ path → contAt s r < count s
@@ -74,4 +67,4 @@ module _ {s : List ℕ} {A : ℕ} (w : WellFormed false s A) (r : ℕ) (l : r < 
 
 pub shapes : (s : List ℕ) (A : ℕ) → Accepted s A → (L : ℕ) (cell : ℕ → ℕ → ℕ)
     → (r : ℕ) → r < count s → Shape s L cell (kindAt s r) r
-shapes s A h L cell r l = shaped (accepted-formed s A h) r l L cell (accepted-star s A h L cell r l) (kindAt s r) refl
+shapes s A h L cell r l = shaped (starred-formed s A h) r l L cell (accepted-star s A h L cell r l) (kindAt s r) refl

@@ -2,22 +2,21 @@
 use Prim.Native.Nat.{ℕ, pred, _+_, _*_, _<_, _≤_}
 use mathlib.Core.Path.{_≡_}
 use mathlib.Core.Logic.{_↔_}
-use mathlib.Core.Bool.{false}
-use mathlib.Core.List.{List, _∷_, _++_}
+use mathlib.Core.List.{List}
 use lib.ListN.{length}
 use Rattle.meaning.specs.Run.{cellOf}
 use Rattle.meaning.specs.Record.{count, kindAt, sortOf, formula, path}
 use Rattle.meaning.specs.Tree.{formAt, pathAt}
 use Rattle.meaning.specs.Value.{valueOf, squareOf, modalRow}
 use Rattle.meaning.specs.Rule.{words}
-use Rattle.meaning.specs.Translation.{translation, context}
+use Rattle.meaning.specs.Translation.{translation, context, ruleSum}
 use Rattle.meaning.specs.Judge.{AllHold}
-use Rattle.meaning.specs.Refusal.{firstOf, ground1, ground8, treeGrounds, starGrounds}
+use Rattle.meaning.specs.Refusal.{firstOf, starredGrounds}
 use Rattle.theorems.specs.Filling.{Trace, Filling, labelOf, Meets}
 
 -- The translator accepts the formula; whether its output has room is another matter.
 abbrev pub Accepted : List ℕ → ℕ → Type 0
-Accepted s A = firstOf (ground1 s ∷ ground8 A ∷ treeGrounds false s A ++ starGrounds s) ≡ 0
+Accepted s A = firstOf (starredGrounds s A) ≡ 0
 
 -- Over one trace; n is the number of records.
 pub record OneFilling (s : List ℕ) (A L : ℕ) (cells : List ℕ) : Type 0 where
@@ -38,4 +37,6 @@ pub record OneFilling (s : List ℕ) (A L : ℕ) (cells : List ℕ) : Type 0 whe
 
 pub record Demand3 : Type 0 where
   pub one-filling : (s : List ℕ) (A L : ℕ) (cells : List ℕ) → Accepted s A → Trace A L cells → OneFilling s A L cells
+  -- So many rules come from each record, and one asserts the whole formula: at most 4 n + 1.
+  pub counted : (s : List ℕ) (A : ℕ) → length (translation s A) ≡ ruleSum s (count s) + 1
   pub few-rules : (s : List ℕ) (A : ℕ) → length (translation s A) ≤ 4 * count s + 1

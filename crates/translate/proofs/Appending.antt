@@ -12,12 +12,12 @@ use lib.Seq.{take-append-seam, drop-append-add, drop-drop}
 use Rattle.meaning.specs.Run.{each, written}
 use Rattle.meaning.specs.Record.{count, kindAt}
 use Rattle.meaning.specs.Rule.{Rule, rule, ruleSize, words}
-use Rattle.meaning.specs.Translation.{label, rulesAt, asserted, translation}
+use Rattle.meaning.specs.Translation.{label, context, rulesAt, asserted, translation, ruleNumber, ruleSum}
 use Rattle.meaning.proofs.Bounds.{below-suc}
 use Rattle.records.specs.Code.{modeOf}
 use Rattle.translate.specs.Contexts.{Moded}
-use Rattle.translate.specs.Rows.{Rowed, Pasted, Counts, rowCount}
-use Rattle.translate.proofs.Rowing.{record-few, record-counts}
+use Rattle.translate.specs.Rows.{Rowed, Pasted}
+use Rattle.translate.proofs.Rowing.{record-counts}
 
 -- ---- words
 words-append : (ρs σs : List Rule) → words (ρs ++ σs) ≡ words ρs ++ words σs
@@ -111,30 +111,17 @@ unfolding translation
 begun-done s A b l w p = rw l at (begun-more b w p .whole)
 
 -- ---- how many
-each-few : (s : List ℕ) (A r : ℕ) → length (each r (rulesAt s A)) ≤ 4 * r
-unfolding each
-each-few s A zero = omega arith
-each-few s A (suc r) =
-    omega (arith, each-few s A r, record-few s A r, length-append (each r (rulesAt s A)) (rulesAt s A r))
-
--- So many rules, with the last, over any number of atoms.
+-- So many rules come from the first r records, with the last rule.
 abbrev pub Tallied : List ℕ → ℕ → ℕ → Type 0
-Tallied s r n = (A : ℕ) → n ≡ 1 + length (each r (rulesAt s A))
+Tallied s r n = n ≡ ruleSum s r + 1
 
 pub tally-none : (s : List ℕ) → Tallied s 0 1
-unfolding each
-tally-none s A = refl
+unfolding ruleSum
+tally-none s = refl
 
 pub tally-more : {s modes : List ℕ} {r n x : ℕ} → Moded s modes → r < count s → Tallied s r n
-    → x ≡ rowCount (kindAt s r) (modeOf (getD modes r 0)) → Tallied s (r + 1) (n + x)
-tally-more {s} {modes} {r} {n} {x} w l t e A =
-    rw (each-more, length-append) (omega (arith, t A, e, record-counts w l A))
-
-pub tally-few : (s : List ℕ) {n : ℕ} (r : ℕ) → Tallied s r n → n ≤ 1 + 4 * r
-tally-few s r t = omega (arith, t 0, each-few s 0 r)
-
-pub tally-done : (s : List ℕ) {r n : ℕ} → r ≡ count s → Tallied s r n → Counts s n
-tally-done s q t A = t A ∙ rw (q, translation-length s A)
-
-pub translation-few : (s : List ℕ) (A : ℕ) → length (translation s A) ≤ 1 + 4 * count s
-translation-few s A = omega (arith, each-few s A (count s), translation-length s A)
+    → x ≡ ruleNumber (kindAt s r) (modeOf (getD modes r 0)) → Tallied s (r + 1) (n + x)
+unfolding ruleSum
+tally-more {s} {modes} {r} {n} {x} w l t e =
+    let sum : ruleSum s (r + 1) ≡ ruleSum s r + ruleNumber (kindAt s r) (context s r .mode) = rw add-one in
+    omega (arith, record-counts w l)

@@ -12,15 +12,14 @@ use native.Mathlib.Omega.{arith}
 use lib.Dec.{eqb}
 use lib.ListN.{length, set, length-set}
 use lib.Seq.{getD-set-same, getD-set-other}
-use borrow.Author.Tests.{eq-eqb, ne-eqb, ltb-true, lt-ltb, le-ltb}
+use borrow.Author.Tests.{ltb-true, lt-ltb, le-ltb}
 use Rattle.meaning.specs.Record.{Mode, choice, sequence, star, count, kindByte, kindOf, kindAt, fieldA, fieldB}
 use Rattle.meaning.specs.Record.{child, useA, useB, path}
 use Rattle.meaning.specs.Tree.{modalNumber}
 use Rattle.meaning.specs.Translation.{Context, under, handed, context}
 use Rattle.meaning.specs.WellFormed.{Fits, WellFormed}
 use Rattle.meaning.proofs.Bounds.{le-or-lt}
-use Rattle.meaning.proofs.Parents.{InSecond, first-used, second-used, one-field}
-use Rattle.meaning.proofs.Climbing.{context-handed}
+use Rattle.meaning.proofs.Climbing.{first-context, second-context}
 use Rattle.records.specs.Code.{modeOf}
 use Rattle.records.proofs.Numbers.{modal-kind, join-kind, star-kind, path-number}
 use Rattle.records.proofs.Held.{modal-first, modal-second, path-first, join-second, move-first, move-second}
@@ -38,19 +37,6 @@ modal-number k h = elim (le-or-lt 3 k) [
 ]
 
 module _ {s : List ℕ} {A : ℕ} (w : WellFormed false s A) (q : ℕ) (l : q < count s) where
-  module _ (u : useA (kindAt s q) ≡ child path) where
-    first-context : context s (fieldA s q) ≡ handed (kindAt s q) true (fieldB s q) q (context s q)
-    first-context =
-        let h = context-handed w (fieldA s q) q l (first-used s (fieldA s q) q (path, u, refl)) in
-        rw (eq-eqb (fieldA s q) (fieldA s q) refl) at h
-
-    second-context : useB (kindAt s q) ≡ child path
-        → context s (fieldB s q) ≡ handed (kindAt s q) false (fieldB s q) q (context s q)
-    second-context v =
-        let b : InSecond s (fieldB s q) q = (path, v, refl) in
-        let h = context-handed w (fieldB s q) q l (second-used s (fieldB s q) q b) in
-        rw (ne-eqb (fieldA s q) (fieldB s q) (λ x. one-field w (fieldB s q) q l (path, u, x) b)) at h
-
   -- A child of q that is a path.
   placed : {mode c r : ℕ} → Fits s A q (child path) r → 3 ≤ mode → mode < 5 → c < count s
       → context s r ≡ under (modeOf mode) c → Placed s mode c r
@@ -69,7 +55,7 @@ module _ {s : List ℕ} {A : ℕ} (w : WellFormed false s A) (q : ℕ) (l : q < 
       let (m, n) = modal-number (kindByte s q) e in
       let u = sym (modal-first (kindByte s q) m n) in
       let b = rw (← modal-second (kindByte s q) m n) at (w .second q l) in
-      let e = rw (modal-kind (kindByte s q) m n) at (first-context u) in
+      let e = rw (modal-kind (kindByte s q) m n) at (first-context w q l u) in
       placed (rw u at (w .first q l)) m n (omega (arith, b .0)) e
 
 -- What a choice, or else a sequence, hands to its first part, and to its second.

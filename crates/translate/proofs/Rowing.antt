@@ -1,7 +1,7 @@
--- The rules of one record. How many there are depends on no label, and it is four at most. For a formula's kind
--- neither the mode nor the continuation matters, so what the code knows of the path records is enough for all.
+-- The rules of one record. How many there are depends on its kind and mode alone. For a formula's kind neither
+-- the mode nor the continuation matters, so what the code knows of the path records is enough for all.
 use Prim.Native.Nat.{ℕ, _<_, _≤_}
-use mathlib.Core.Path.{_≡_, refl}
+use mathlib.Core.Path.{_≡_, refl, sym, ap, _∙_}
 use mathlib.Core.Bool.{Bool, true, false, cond}
 use mathlib.Core.List.{List, [], _∷_}
 use mathlib.Core.Logic.{_⊎_, inl, inr}
@@ -9,11 +9,12 @@ use native.Mathlib.Omega.{arith}
 use lib.Dec.{eqb}
 use lib.ListN.{length, getD}
 use Rattle.meaning.specs.Record.{Kind, constant, atom, modal, move, test, choice, sequence, star, shorthand, unknown}
-use Rattle.meaning.specs.Record.{Mode, diamond, box, ahead, back, Sort, formula, path, sortOf, kinds, kindOf}
+use Rattle.meaning.specs.Record.{Mode, diamond, box, Sort, formula, path, sortOf, kinds, kindOf}
 use Rattle.meaning.specs.Record.{Use, unused, atomNumber, child, useA, useB, count, kindAt, kindByte, fieldA, fieldB}
 use Rattle.meaning.specs.Rule.{words}
 use Rattle.meaning.specs.Tree.{modalNumber}
-use Rattle.meaning.specs.Translation.{label, context, rulesOf, rulesAt, edgeRule, joinRules, testRules, moveRules}
+use Rattle.meaning.specs.Translation.{label, context, rulesOf, rulesAt, edgeRule, ruleNumber}
+use Rattle.meaning.proofs.RuleCount.{rules-counted}
 use Rattle.meaning.specs.WellFormed.{WellFormed, Fits}
 use Rattle.meaning.proofs.Bounds.{le-or-lt}
 use Rattle.records.specs.Code.{modeOf}
@@ -21,28 +22,9 @@ use Rattle.records.proofs.Kind.{stretch}
 use Rattle.meaning.proofs.Nodes.{differs}
 use Rattle.records.proofs.Numbers.{formula-number, path-number}
 use Rattle.translate.specs.Contexts.{AllHanded, Moded}
-use Rattle.translate.specs.Rows.{edgeBody, edgeHead, rowCount}
+use Rattle.translate.specs.Rows.{edgeBody, edgeHead}
 
 -- ---- by the kind
-counted : (K : Kind) (m : Mode) (x a b c i : ℕ)
-    → let n = length (rulesOf K m x a b c i) in
-    (rowCount K m ≡ n) × (n ≤ 4)
-unfolding rowCount rulesOf joinRules testRules moveRules
-counted (constant v) m x a b c i = (refl, omega arith)
-counted atom m x a b c i = (refl, omega arith)
-counted (modal n) m x a b c i = (refl, omega arith)
-counted (move ahead) m x a b c i = (refl, omega arith)
-counted (move back) m x a b c i = (refl, omega arith)
-counted test diamond x a b c i = (refl, omega arith)
-counted test box x a b c i = (refl, omega arith)
-counted choice diamond x a b c i = (refl, omega arith)
-counted choice box x a b c i = (refl, omega arith)
-counted sequence m x a b c i = (refl, omega arith)
-counted star diamond x a b c i = (refl, omega arith)
-counted star box x a b c i = (refl, omega arith)
-counted (shorthand σ) m x a b c i = (refl, omega arith)
-counted unknown m x a b c i = (refl, omega arith)
-
 formula-same : (K : Kind) (m n : Mode) (x a b c d i : ℕ) → sortOf K ≡ formula
     → rulesOf K m x a b c i ≡ rulesOf K n x a b d i
 unfolding sortOf rulesOf
@@ -59,33 +41,33 @@ formula-same unknown m n x a b c d i e = refl
 
 -- ---- by the kind's number
 module _ (n : ℕ) (m : Mode) where
-  pub two-rows : n < 5 → 2 ≡ rowCount (kindOf n) m
-  unfolding kinds rowCount rulesOf
-  two-rows h = stretch (λ K. rowCount K m) 2 0 5 refl n (omega arith) h
+  pub two-rows : n < 5 → 2 ≡ ruleNumber (kindOf n) m
+  unfolding kinds ruleNumber
+  two-rows h = stretch (λ K. ruleNumber K m) 2 0 5 refl n (omega arith) h
 
-  pub two-rows-9 : n ≡ 9 → 2 ≡ rowCount (kindOf n) m
-  unfolding kinds rowCount rulesOf
-  two-rows-9 e = stretch (λ K. rowCount K m) 2 9 1 refl n (omega arith) (omega arith)
+  pub two-rows-9 : n ≡ 9 → 2 ≡ ruleNumber (kindOf n) m
+  unfolding kinds ruleNumber
+  two-rows-9 e = stretch (λ K. ruleNumber K m) 2 9 1 refl n (omega arith) (omega arith)
 
-pub four-rows : (n : ℕ) → n ≡ 7 → 4 ≡ rowCount (kindOf n) box
-unfolding kinds rowCount rulesOf testRules
-four-rows n e = stretch (λ K. rowCount K box) 4 7 1 refl n (omega arith) (omega arith)
+pub four-rows : (n : ℕ) → n ≡ 7 → 4 ≡ ruleNumber (kindOf n) box
+unfolding kinds ruleNumber
+four-rows n e = stretch (λ K. ruleNumber K box) 4 7 1 refl n (omega arith) (omega arith)
 
 pub three-rows : (n : ℕ) (m : Mode) → 5 ≤ n → n < 11 → (n ≡ 9 → ⊥) → (n ≡ 7 → m ≡ diamond)
-    → 3 ≡ rowCount (kindOf n) m
-unfolding kinds rowCount rulesOf joinRules testRules moveRules
+    → 3 ≡ ruleNumber (kindOf n) m
+unfolding kinds ruleNumber
 three-rows n diamond l h p q =
     elim (le-or-lt n 8) [
-      | inl k ↦ stretch (λ K. rowCount K diamond) 3 5 4 refl n l (omega arith)
-      | inr k ↦ stretch (λ K. rowCount K diamond) 3 10 1 refl n (omega arith) h
+      | inl k ↦ stretch (λ K. ruleNumber K diamond) 3 5 4 refl n l (omega arith)
+      | inr k ↦ stretch (λ K. ruleNumber K diamond) 3 10 1 refl n (omega arith) h
     ]
 three-rows n box l h p q =
     let seven : n ≡ 7 → ⊥ = λ e. let d = q e in let z : _≡_ {A = ℕ} 0 1 = cc in omega arith in
     elim (le-or-lt n 6) [
-      | inl k ↦ stretch (λ K. rowCount K box) 3 5 2 refl n l (omega arith)
+      | inl k ↦ stretch (λ K. ruleNumber K box) 3 5 2 refl n l (omega arith)
       | inr k ↦ elim (le-or-lt n 8) [
-        | inl j ↦ stretch (λ K. rowCount K box) 3 8 1 refl n (omega arith) (omega arith)
-        | inr j ↦ stretch (λ K. rowCount K box) 3 10 1 refl n (omega arith) h
+        | inl j ↦ stretch (λ K. ruleNumber K box) 3 8 1 refl n (omega arith) (omega arith)
+        | inr j ↦ stretch (λ K. ruleNumber K box) 3 10 1 refl n (omega arith) h
       ]
     ]
 
@@ -113,23 +95,17 @@ sorts path = inr refl
 pub handed-moded : {s modes conts : List ℕ} → AllHanded s modes conts → Moded s modes
 handed-moded h = record { size = h .modes-size; mode = λ r l e. h .right r l e .mode }
 
-record-counted : (s : List ℕ) (A r : ℕ)
-    → let n = length (rulesAt s A r) in
-    (rowCount (kindAt s r) (context s r .mode) ≡ n) × (n ≤ 4)
-unfolding rulesAt
-record-counted s A r = counted (kindAt s r) (context s r .mode) _ _ _ _ _
-
-pub record-few : (s : List ℕ) (A r : ℕ) → length (rulesAt s A r) ≤ 4
-record-few s A r = record-counted s A r .1
-
-pub record-counts : {s modes : List ℕ} {r : ℕ} → Moded s modes → r < count s → (A : ℕ)
-    → rowCount (kindAt s r) (modeOf (getD modes r 0)) ≡ length (rulesAt s A r)
-unfolding rowCount
-record-counts {s} {modes} {r} w l A =
-    let c = record-counted s A r .0 in
-    elim (sorts (sortOf (kindAt s r))) [
-      | inl e ↦ rw (formula-same (kindAt s r) (modeOf (getD modes r 0)) (context s r .mode) 0 0 0 0 0 0 e) c
-      | inr e ↦ rw (w .mode r l e, mode-again (context s r .mode)) c
+-- As many as the code counts.
+pub record-counts : {s modes : List ℕ} {r : ℕ} → Moded s modes → r < count s
+    → ruleNumber (kindAt s r) (modeOf (getD modes r 0)) ≡ ruleNumber (kindAt s r) (context s r .mode)
+record-counts {s} {modes} {r} w l =
+    let K = kindAt s r in
+    let m = modeOf (getD modes r 0) in
+    let n = context s r .mode in
+    elim (sorts (sortOf K)) [
+      | inl e ↦
+          sym (rules-counted K m 0 0 0 0 0) ∙ ap length (formula-same K m n 0 0 0 0 0 0 e) ∙ rules-counted K n 0 0 0 0 0
+      | inr e ↦ rw (w .mode r l e, mode-again (context s r .mode))
     ]
 
 -- The rules as the code asks for them.

@@ -3,17 +3,13 @@
 --   Small word                 a word with room for a mark
 --   edgeBody, edgeHead         the words of an edge rule, by the number of the modality's kind
 --   Pasted old at ws n e new   the first 6 * n words of ws stand in `new` at `at`, the rest is as in `old`, and e is the place behind
---   Counts s n                 n is the number of rules of the translation, over any number of atoms
---   rowCount kind mode         how many rules a record of the kind has
 use Prim.Native.Nat.{ℕ, _+_, _*_, _<_}
 use mathlib.Core.Path.{_≡_}
 use mathlib.Core.Bool.{cond}
 use mathlib.Core.List.{List, _++_}
 use lib.Dec.{eqb}
 use lib.ListN.{length, take, drop}
-use Rattle.meaning.specs.Record.{Kind, Mode}
 use Rattle.meaning.specs.Rule.{Rule, ruleSize, words}
-use Rattle.meaning.specs.Translation.{rulesOf, translation}
 
 pub record Rowed (ws : List ℕ) (count : ℕ) (rules : List Rule) : Type 0 where
   pub counted : count ≡ length rules
@@ -28,13 +24,6 @@ edgeBody mode x = cond (eqb mode 3) x 1
 unfoldable pub edgeHead : ℕ → ℕ → ℕ
 edgeHead mode x = cond (eqb mode 3) 0 x
 
--- The labels do not matter.
-unfoldable pub rowCount : Kind → Mode → ℕ
-rowCount kind mode = length (rulesOf kind mode 0 0 0 0 0)
-
 pub record Pasted (old : List ℕ) (at : ℕ) (ws : List ℕ) (n e : ℕ) (new : List ℕ) : Type 0 where
   pub place : e ≡ at + ruleSize * n
   pub whole : new ≡ take at old ++ take (ruleSize * n) ws ++ drop (at + ruleSize * n) old
-
-abbrev pub Counts : List ℕ → ℕ → Type 0
-Counts s n = (A : ℕ) → n ≡ length (translation s A)

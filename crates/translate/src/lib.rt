@@ -4,20 +4,17 @@ mod row;
 mod stars;
 
 ghost use mathlib.Core.Path.{_≡_};
-ghost use mathlib.Core.Bool.{false};
-ghost use mathlib.Core.List.{_∷_, _++_};
 ghost use Prim.Native.Nat.{_*_, _+_, _<_, _≤_};
 ghost use lib.ListN.{length};
-ghost use Rattle.meaning.specs.Run.{each, written};
+ghost use Rattle.meaning.specs.Run.{written};
 ghost use Rattle.meaning.specs.Record.{count};
 ghost use Rattle.meaning.specs.Rule.{words, ruleSize};
-ghost use Rattle.meaning.specs.Translation.{rulesAt, translation};
-ghost use Rattle.meaning.specs.Refusal.{firstOf, ground1, ground8, treeGrounds, starGrounds};
+ghost use Rattle.meaning.specs.Translation.{rulesAt, translation, ruleSum};
+ghost use Rattle.meaning.specs.Refusal.{firstOf, starredGrounds};
 ghost use Rattle.meaning.specs.Service.{translateAnswer, translateAfter};
 ghost use Rattle.translate.specs.Asking.{Formed, Ready};
 ghost use Rattle.translate.specs.Contexts.{AllHanded, Moded};
-ghost use Rattle.translate.specs.Rows.{Rowed, Small, Pasted, Counts};
-use records::fault;
+ghost use Rattle.translate.specs.Rows.{Rowed, Small, Pasted};
 use records::layout;
 use row::Rows;
 
@@ -55,17 +52,11 @@ pub fn translate(records: &[u8], atoms: u64, out: &mut [u16]) -> Counted
     }
 }
 
-// Conditions in document 01's order, up to the stars: 1, 8, those of the records, 12 and 11 of each star.
+// Conditions in document 01's order, up to the stars: those of check, then 12 and 11 of each star.
 fn first_refusal(records: &[u8], atoms: u64) -> u8
-    ensures { λ x. ⌜ x ≡ firstOf (ground1 (now (records .entry)) ∷ ground8 atoms ∷ treeGrounds false (now (records .entry)) atoms ++ starGrounds (now (records .entry))) ⌝ }
+    ensures { λ x. ⌜ x ≡ firstOf (starredGrounds (now (records .entry)) atoms) ⌝ }
 {
-    if fault::wrong_length(records) {
-        return 1;
-    }
-    if fault::too_many(atoms) {
-        return 8;
-    }
-    let x = fault::tree_refusal(records, false, atoms);
+    let x = records::check(records, atoms);
     if x != 0 {
         return x;
     }
@@ -75,7 +66,7 @@ fn first_refusal(records: &[u8], atoms: u64) -> u8
 // How many rules the translation has.
 fn rule_count(records: &[u8], modes: &[u8; 255]) -> usize
     requires { ⌜ Formed (now records) × Moded (now records) (now modes) ⌝ }
-    ensures { λ n. ⌜ Counts (now (records .entry)) n ⌝ }
+    ensures { λ n. ⌜ n ≡ ruleSum (now (records .entry)) (count (now (records .entry))) + 1 ⌝ }
 {
     let n = layout::record_count(records);
     let mut rules: usize = 1;

@@ -4,9 +4,9 @@ ghost use Prim.Native.Nat.{_<_};
 ghost use Rattle.meaning.specs.Record.{kindOf};
 ghost use Rattle.meaning.specs.Rule.{rule};
 ghost use mathlib.Core.List.{[], _∷_, _++_};
-ghost use Rattle.meaning.specs.Translation.{rulesOf, sameRules, edgeRule, joinRules, testRules, moveRules};
+ghost use Rattle.meaning.specs.Translation.{rulesOf, sameRules, edgeRule, joinRules, testRules, moveRules, ruleNumber};
 ghost use Rattle.records.specs.Code.{modeOf, wayOf};
-ghost use Rattle.translate.specs.Rows.{Rowed, Small, edgeBody, edgeHead, rowCount};
+ghost use Rattle.translate.specs.Rows.{Rowed, Small, edgeBody, edgeHead};
 
 pub struct Rows {
     pub words: [u16; 24],
@@ -273,7 +273,7 @@ pub fn rows_of(kind: u8, mode: u8, x: u16, a: u16, b: u16, c: u16, i: u16) -> Ro
 // How many rules a record of a core kind has.
 pub fn row_count(kind: u8, mode: u8) -> usize
     requires { ⌜ kind < 11 ⌝ }
-    ensures { λ n. ⌜ n ≡ rowCount (kindOf kind) (modeOf mode) ⌝ }
+    ensures { λ n. ⌜ n ≡ ruleNumber (kindOf kind) (modeOf mode) ⌝ }
 {
     if kind < 5 {
         return 2;

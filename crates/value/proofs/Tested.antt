@@ -1,6 +1,6 @@
 -- A sequence that begins with a test. The test leads from an instant to itself alone, with its formula's value, so the
 -- sequence has the second path's values, but no more than that: no square for the test is needed.
-use Prim.Native.Nat.{ℕ, _*_, _<_, _≤_}
+use Prim.Native.Nat.{ℕ, _*_, _≤_}
 use mathlib.Core.Path.{_≡_, refl, sym, subst, _∙_}
 use mathlib.Core.Bool.{Bool, true, false, _&&_, true≢false}
 use mathlib.Core.List.{List}
@@ -12,7 +12,7 @@ use Rattle.meaning.specs.Record.{kindAt, kindByte, fieldA, fieldB, path, sortOf
 use Rattle.meaning.specs.Value.{Row, Square, testSquare, sequenceSquare}
 use Rattle.meaning.proofs.Bounds.{le-above}
 use Rattle.meaning.proofs.Reach.{only-there, value-there, there-bound, sequence-elim, sequence-intro}
-use Rattle.records.proofs.Held.{test-first, path-first, join-second}
+use Rattle.records.proofs.Held.{test-first, path-first}
 use Rattle.value.specs.Cells.{at, rowAt, Holds, capped, joinOf}
 use Rattle.value.specs.Valuing.{Under, Asked, Valued, Squared}
 use Rattle.value.proofs.Same.{Agree, holds-same}

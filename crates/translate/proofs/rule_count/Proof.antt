@@ -1,10 +1,12 @@
 -- `rule_count` meets its contract: behind r records the count is that of their rules and the last.
 use Prim.Native.Nat.{_+_, _-_, _<_, _≤_}
+use mathlib.Core.Path.{_≡_}
 use native.Mathlib.Omega.{arith}
 use borrow.Author.Needs.{needs}
 use Rattle.meaning.specs.Record.{count}
+use Rattle.meaning.proofs.RuleCount.{sum-few}
 use Rattle.translate.proofs.Rowing.{core-kind}
-use Rattle.translate.proofs.Appending.{Tallied, tally-none, tally-more, tally-few, tally-done}
+use Rattle.translate.proofs.Appending.{Tallied, tally-none, tally-more}
 use Rattle.translate.proofs.rule_count.Statement.{statement}
 use Rattle.translate.proofs.rule_count.Tie as tie
 
@@ -52,7 +54,7 @@ row-count-requires c κs =
 add-rules : tie.Need-add-rules Inv-loop μ-loop
 add-rules c =
     let l = c .before .before .before in
-    omega (arith, tally-few _ _ (more c), before-end l, start l .pre .0 .formed .few)
+    omega (arith, more c, sum-few (start l .args .records .now) (l .before .loop .r + 1), before-end l, start l .pre .0 .formed .few)
 
 add-r : tie.Need-add-r Inv-loop μ-loop
 add-r c = search needs
@@ -64,7 +66,11 @@ loop-again : tie.Need-loop-again Inv-loop μ-loop
 loop-again c = (omega arith, more c)
 
 returns : tie.Need-returns Inv-loop μ-loop
-returns c = tally-done _ (omega arith) (c .before .loop .inv .1)
+returns c =
+    let turn = c .before .loop in
+    let n = count (c .before .before .before .before .args .records .now) in
+    let e : turn .r ≡ n = omega arith in
+    rw e at (turn .inv .1)
 
 pub rule-count-spec : {M : Type 1} → statement M
 rule-count-spec =

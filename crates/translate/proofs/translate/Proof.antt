@@ -4,11 +4,15 @@ use mathlib.Core.Bool.{false}
 use native.Mathlib.Omega.{arith}
 use borrow.Author.Needs.{needs}
 use borrow.Author.Tests.{eq-eqb, ne-eqb}
-use Rattle.meaning.specs.Refusal.{firstOf}
+use lib.ListN.{length}
+use Rattle.meaning.specs.Record.{count}
+use Rattle.meaning.specs.Translation.{translation}
+use Rattle.meaning.specs.Refusal.{firstOf, starredGrounds}
 use Rattle.meaning.specs.Service.{translateAnswer, translateAfter}
 use Rattle.meaning.specs.WellFormed.{WellFormed}
-use Rattle.translate.proofs.Answering.{early, accepted-formed, refused, refused-room, not-refused}
-use Rattle.translate.proofs.Appending.{translation-few}
+use Rattle.meaning.proofs.Accepted.{starred-formed}
+use Rattle.meaning.proofs.RuleCount.{sum-few, translation-counted}
+use Rattle.translate.proofs.Answering.{refused, refused-room, not-refused}
 use Rattle.translate.proofs.Rowing.{handed-moded}
 use Rattle.translate.proofs.translate.Statement.{statement}
 use Rattle.translate.proofs.translate.Tie as tie
@@ -17,11 +21,17 @@ use Rattle.translate.proofs.translate.Tie as tie
 abbrev start : tie.Else1 → tie.Start
 start c = c .before .before .before .before
 
-none : (c : tie.Else1) → firstOf (early (start c .args .records .now) (start c .args .atoms)) ≡ 0
+none : (c : tie.Else1) → firstOf (starredGrounds (start c .args .records .now) (start c .args .atoms)) ≡ 0
 none c = sym (c .before .first-refusal .ensures) ∙ c .if1 .left
 
 formed : (c : tie.Else1) → WellFormed false (start c .args .records .now) (start c .args .atoms)
-formed c = accepted-formed _ _ (none c)
+formed c = starred-formed _ _ (none c)
+
+-- The count is that of the rules.
+number : (c : tie.After-rule-count)
+    → let a = start (c .before .before .before .before .before) .args in
+    c .rule-count .result ≡ length (translation (a .records .now) (a .atoms))
+number c = c .rule-count .ensures ∙ sym (translation-counted _ _)
 
 -- ---- the calls and the returns
 first-refusal-requires : tie.Need-first-refusal-requires
@@ -46,13 +56,13 @@ mul-if2 : tie.Need-mul-if2
 mul-if2 c =
     let else = c .before .before .before .before .before in
     let a = start else .args in
-    omega (arith, c .rule-count .ensures (a .atoms), translation-few (a .records .now) (a .atoms), formed else .few)
+    omega (arith, c .rule-count .ensures, sum-few (a .records .now) (count (a .records .now)), formed else .few)
 
 returns-2 : tie.Need-returns-2
 unfolding translateAnswer translateAfter
 returns-2 c =
     let else = c .before .before .before .before .before .before in
-    let h = rw (c .before .rule-count .ensures (start else .args .atoms)) at (c .if2 .taken) in
+    let h = rw (number (c .before)) at (c .if2 .taken) in
     let e = refused-room _ _ _ (none else) h in
     let n = ne-eqb _ 0 (λ z. let q = e ∙ z in omega arith) in
     (e, (rw n, rw n))
@@ -63,7 +73,7 @@ write-rules-requires c κs =
     let else = two .before .before .before .before .before .before in (
       formed else,
       two .before .before .before .find-contexts .ensures,
-      rw (two .before .rule-count .ensures (start else .args .atoms)) at (two .if2 .left),
+      rw (number (two .before)) at (two .if2 .left),
     )
 
 same-length : tie.Need-same-length
@@ -75,7 +85,7 @@ returns-3 c =
     let wrote = c .before .before in
     let two = wrote .before .before .before .before in
     let else = two .before .before .before .before .before .before in
-    let number = two .before .rule-count .ensures (start else .args .atoms) in
+    let number = number (two .before) in
     let e = not-refused _ _ _ (none else) (rw number at (two .if2 .left)) in
     let n = eq-eqb _ _ (sym e) in
     (e, (rw n number, rw n (wrote .write-rules .ensures)))

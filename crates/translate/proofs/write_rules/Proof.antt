@@ -6,7 +6,7 @@ use borrow.Author.Needs.{needs}
 use Rattle.meaning.specs.Run.{each}
 use Rattle.meaning.specs.Record.{count}
 use Rattle.meaning.specs.Translation.{rulesAt}
-use Rattle.translate.proofs.Rowing.{record-few}
+use Rattle.meaning.proofs.RuleCount.{record-few}
 use Rattle.translate.proofs.Appending.{Begun, begun-none, begun-more, begun-room, begun-length, begun-done}
 use Rattle.translate.proofs.Appending.{each-more, rowed-long, room-more, room-last}
 use Rattle.translate.proofs.write_rules.Statement.{statement}

@@ -3,7 +3,7 @@ use Prim.Native.Nat.{_-_}
 use native.Mathlib.Nat.{le-refl}
 use native.Mathlib.Omega.{arith}
 use Rattle.value.specs.Cells.{at, rowAt, capped}
-use Rattle.value.proofs.Following.{Following, following-none, following-more, following-done}
+use Rattle.value.proofs.Following.{Following, following-more, following-done}
 use borrow.Author.Needs.{needs}
 use Rattle.value.proofs.square.cap.Statement.{statement}
 use Rattle.value.proofs.square.cap.Tie as tie

@@ -1,0 +1,69 @@
+-- How many rules there are. A record's kind and mode alone say how many it has, four at most; so those of all records
+-- are the sum, and one more asserts the whole formula.
+use Prim.Native.Nat.{ℕ, zero, suc, _+_, _*_, _≤_}
+use mathlib.Core.Path.{_≡_, refl}
+use mathlib.Core.List.{List}
+use native.Mathlib.Omega.{arith}
+use lib.ListN.{length, length-append}
+use Rattle.meaning.specs.Run.{each}
+use Rattle.meaning.specs.Record.{Kind, constant, atom, modal, move, test, choice, sequence, star, shorthand, unknown}
+use Rattle.meaning.specs.Record.{count, kindAt, Mode, diamond, box, ahead, back}
+use Rattle.meaning.specs.Translation.{joinRules, testRules, moveRules, rulesOf, rulesAt, translation}
+use Rattle.meaning.specs.Translation.{context, ruleNumber, ruleSum}
+
+-- ---- one record
+pub rules-counted : (K : Kind) (m : Mode) (x a b c i : ℕ) → length (rulesOf K m x a b c i) ≡ ruleNumber K m
+unfolding ruleNumber rulesOf joinRules testRules moveRules
+rules-counted (constant v) m x a b c i = refl
+rules-counted atom m x a b c i = refl
+rules-counted (modal n) m x a b c i = refl
+rules-counted (move ahead) m x a b c i = refl
+rules-counted (move back) m x a b c i = refl
+rules-counted test diamond x a b c i = refl
+rules-counted test box x a b c i = refl
+rules-counted choice diamond x a b c i = refl
+rules-counted choice box x a b c i = refl
+rules-counted sequence m x a b c i = refl
+rules-counted star diamond x a b c i = refl
+rules-counted star box x a b c i = refl
+rules-counted (shorthand σ) m x a b c i = refl
+rules-counted unknown m x a b c i = refl
+
+number-few : (K : Kind) (m : Mode) → ruleNumber K m ≤ 4
+unfolding ruleNumber
+number-few (constant v) m = omega arith
+number-few atom m = omega arith
+number-few (modal n) m = omega arith
+number-few (move w) m = omega arith
+number-few test diamond = omega arith
+number-few test box = omega arith
+number-few choice m = omega arith
+number-few sequence m = omega arith
+number-few star m = omega arith
+number-few (shorthand σ) m = omega arith
+number-few unknown m = omega arith
+
+record-counted : (s : List ℕ) (A r : ℕ) → length (rulesAt s A r) ≡ ruleNumber (kindAt s r) (context s r .mode)
+unfolding rulesAt
+record-counted s A r = rules-counted (kindAt s r) (context s r .mode) _ _ _ _ _
+
+pub record-few : (s : List ℕ) (A r : ℕ) → length (rulesAt s A r) ≤ 4
+record-few s A r = omega (arith, record-counted s A r, number-few (kindAt s r) (context s r .mode))
+
+-- ---- all records
+pub sum-few : (s : List ℕ) (r : ℕ) → ruleSum s r ≤ 4 * r
+unfolding ruleSum
+sum-few s zero = omega arith
+sum-few s (suc r) = omega (arith, sum-few s r, number-few (kindAt s r) (context s r .mode))
+
+each-counted : (s : List ℕ) (A r : ℕ) → length (each r (rulesAt s A)) ≡ ruleSum s r
+unfolding each ruleSum
+each-counted s A zero = refl
+each-counted s A (suc r) = simp length-append (omega (arith, each-counted s A r, record-counted s A r))
+
+pub translation-counted : (s : List ℕ) (A : ℕ) → length (translation s A) ≡ ruleSum s (count s) + 1
+unfolding translation
+translation-counted s A = simp length-append (omega (arith, each-counted s A (count s)))
+
+pub few-rules : (s : List ℕ) (A : ℕ) → length (translation s A) ≤ 4 * count s + 1
+few-rules s A = omega (arith, translation-counted s A, sum-few s (count s))
