@@ -20,7 +20,7 @@ use Rattle.records.specs.Code.{wayOf}
 use Rattle.records.proofs.Kind.{stretch, onward}
 use Rattle.records.proofs.Numbers.{either-of, move-kind, test-kind, join-kind, star-kind, path-number}
 use Rattle.records.proofs.Held.{path-first, join-second}
-use Rattle.translate.specs.Asking.{Formed, AskedPath}
+use Rattle.translate.specs.Asking.{Formed, AskedPath, bodyRefusal}
 
 -- The ways of two moves, by their numbers.
 same-way : (n m : ℕ) → 5 ≤ n → n < 7 → 5 ≤ m → m < 7 → eqb n m ≡ sameWay (wayOf m) (wayOf n)
@@ -122,22 +122,15 @@ module _ {s : List ℕ} {p : ℕ} (w : AskedPath s p) {n : ℕ} (number : n ≡ 
     both-node true = refl
     both-node false = refl
 
-    -- A star, or a choice or a sequence, of whose first part a was told x.
-    module _ {a : ℕ} {x : Bool} (e : a ≡ fieldA s p) (d : x ≡ going a) where
-      pub star-goes : n ≡ 10 → going p ≡ x
-      unfolding nodeOf asPath goes
-      star-goes h = rw (is-star h, d, e)
+    -- A star goes as its body does.
+    pub star-goes : n ≡ 10 → going p ≡ going (fieldA s p)
+    unfolding nodeOf asPath goes
+    star-goes h = rw (is-star h)
 
-      pub join-goes : 8 ≤ n → n ≢ 10 → going p ≡ (x || going (fieldB s p))
-      join-goes h o = rw (is-join h o, d, e) (both-node (eqb n 8))
-
-      -- Where the first part goes so, all of it does.
-      pub first-goes : 8 ≤ n → x ≡ true → true ≡ going p
-      first-goes h g =
-          elim (le-or-lt 10 n) [
-            | inl l ↦ sym (star-goes (omega (arith, range .1)) ∙ g)
-            | inr l ↦ sym (join-goes h (λ z. omega arith) ∙ rw g)
-          ]
+    -- A choice or a sequence, of whose first part a was told x.
+    pub join-goes : {a : ℕ} {x : Bool} → 8 ≤ n → n ≢ 10 → a ≡ fieldA s p → x ≡ going a
+        → going p ≡ (x || going (fieldB s p))
+    join-goes h o e d = rw (is-join h o, d, e) (both-node (eqb n 8))
 
 -- ---- the grounds of record r, whose kind has the number n
 -- Only the number 10 is a star's.
@@ -167,13 +160,13 @@ module _ (s : List ℕ) (r : ℕ) where
       kind-is : kindAt s r ≡ star
       kind-is = rw (← number, ten) star-kind
 
-      pub body-asked : Formed s → r < count s → AskedPath s a
+      pub star-asked : Formed s → r < count s → AskedPath s r
       unfolding sortOf
-      body-asked f l =
-          let w : AskedPath s r = record { whole = f; index = l; sorted = rw kind-is } in
-          part-first w number (omega arith) first .1
+      star-asked f l = record { whole = f; index = l; sorted = rw kind-is }
 
-      pub star-grounds : let p = pathAt s a in
-          firstOf grounds ≡ cond (goes (wayOf 5) p && goes (wayOf 6) p) 12 (cond (mayStand p) 11 0)
-      unfolding firstOf ground11 ground12 isStar wayOf
+      pub body-part : Formed s → r < count s → (a < r) × AskedPath s a
+      body-part f l = part-first (star-asked f l) number (omega arith) first
+
+      pub star-grounds : firstOf grounds ≡ bodyRefusal (pathAt s a)
+      unfolding firstOf ground11 ground12 isStar wayOf bodyRefusal
       star-grounds = rw (kind-is, first)

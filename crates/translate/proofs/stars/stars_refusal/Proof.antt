@@ -1,4 +1,5 @@
--- `stars::stars_refusal` meets its contract: before record r, no star's ground applies.
+-- `stars::stars_refusal` meets its contract: before record r, no star's ground applies, and the array tells of all
+-- stars.
 use Prim.Native.Nat.{_-_, _≤_}
 use mathlib.Core.Path.{sym, _∙_}
 use mathlib.Core.List.{[], _∷_}
@@ -7,30 +8,36 @@ use borrow.Author.Needs.{needs}
 use Rattle.meaning.specs.Run.{each}
 use Rattle.meaning.specs.Refusal.{ground11, ground12, starGrounds}
 use Rattle.meaning.proofs.First.{Clear, scan-none, scan-more, scan-found, scan-done, none-clear}
+use Rattle.translate.specs.Asking.{Told}
 use Rattle.translate.proofs.Standing.{star-numbered}
+use Rattle.translate.proofs.Telling.{told-none}
 use Rattle.translate.proofs.stars.stars_refusal.Statement.{statement}
 use Rattle.translate.proofs.stars.stars_refusal.Tie as tie
 
 abbrev Inv-loop : tie.InvT-loop
-Inv-loop s n r₀ r = (r ≤ n) × Clear (each r (λ q. ground12 s q ∷ ground11 s q ∷ []))
+Inv-loop s n ways₀ r₀ ways r = (r ≤ n) × Clear (each r (λ q. ground12 s q ∷ ground11 s q ∷ [])) × Told s r ways
 
 abbrev μ-loop : tie.MeasureT-loop
-μ-loop s n r₀ r = n - r
+μ-loop s n ways₀ r₀ ways r = n - r
 
 record-count-requires : tie.Need-record-count-requires Inv-loop μ-loop
 record-count-requires c κs = search needs
 
 loop-holds : tie.Need-loop-holds Inv-loop μ-loop
-loop-holds c = (search needs, scan-none _)
+loop-holds c = (omega arith, scan-none _, told-none _)
 
 star-refusal-requires : tie.Need-star-refusal-requires Inv-loop μ-loop
-star-refusal-requires c κs = search needs
+star-refusal-requires c κs =
+    let turn = c .before .before in
+    let s = turn .before .before .before in
+    (s .pre, omega (arith, turn .before .record-count .ensures), turn .loop .inv .2)
 
 returns : tie.Need-returns Inv-loop μ-loop
 unfolding starGrounds
 returns c =
-    scan-found _ _ _ (omega arith) (c .before .before .before .loop .inv .1) (c .before .star-refusal .ensures)
-    (c .if1 .taken)
+    let turn = c .before .before .before .before in
+    scan-found _ _ _ (omega (arith, turn .before .record-count .ensures)) (turn .loop .inv .1)
+    (c .before .star-refusal .ensures .0) (c .if1 .taken)
 
 add-r : tie.Need-add-r Inv-loop μ-loop
 add-r c = search needs
@@ -39,11 +46,14 @@ loop-less : tie.Need-loop-less Inv-loop μ-loop
 loop-less c = search needs
 
 loop-again : tie.Need-loop-again Inv-loop μ-loop
-loop-again c = (
-  omega arith,
-  scan-more _ _ (c .before .before .before .loop .inv .1)
-      (none-clear _ (star-numbered _ _) (sym (c .before .star-refusal .ensures) ∙ c .if1 .left)),
-)
+loop-again c =
+    let turn = c .before .before .before .before in
+    let done = c .before .star-refusal in (
+      omega arith,
+      scan-more _ _ (turn .loop .inv .1)
+          (none-clear _ (star-numbered _ _) (sym (done .ensures .0) ∙ c .if1 .left)),
+      done .ensures .1 (c .if1 .left),
+    )
 
 returns-2 : tie.Need-returns-2 Inv-loop μ-loop
 unfolding starGrounds
