@@ -1,0 +1,4 @@
+-- What the proofs of several functions cite.
+pub mod Spelling
+pub mod Putting
+pub mod Answered

@@ -1,0 +1,56 @@
+-- `put_number` meets its contract: the digits are the fewest, at most five, and one byte is put behind them.
+use Prim.Native.Nat.{_≤_}
+use mathlib.Core.Path.{_∙_}
+use native.Mathlib.Omega.{arith}
+use borrow.Author.Needs.{needs}
+use Rattle.printing.specs.Printed.{told}
+use Rattle.printing.proofs.Spelling.{decimal-digits, few-digits}
+use Rattle.printing.proofs.Putting.{put-byte, put-more}
+use Rattle.printing.proofs.put_number.Statement.{statement}
+use Rattle.printing.proofs.put_number.Tie as tie
+
+few : (c : tie.After-decimal) → c .decimal .result ≤ 5
+few c = few-digits _ _ (c .before .before .before .pre .0) (c .decimal .ensures .1 .0)
+
+decimal-requires : tie.Need-decimal-requires
+decimal-requires c κs = search needs
+
+array-share-prefix-digits : tie.Need-array-share-prefix-digits
+array-share-prefix-digits c = search needs
+
+slice-aggregate-put-bytes : tie.Need-slice-aggregate-put-bytes
+slice-aggregate-put-bytes c = search needs
+
+put-bytes-requires : tie.Need-put-bytes-requires
+put-bytes-requires c κs = omega (arith, few (c .before .before))
+
+slice-write-out : tie.Need-slice-write-out
+slice-write-out c = omega (arith, few (c .before .before .before .before .before))
+
+add-result : tie.Need-add-result
+add-result c = omega (arith, few (c .before .before .before .before .before))
+
+same-length : tie.Need-same-length
+same-length c = search needs
+
+returns : tie.Need-returns
+unfolding told
+returns c =
+    let put = c .before .before in
+    let d = put .before .before .before in
+    let few = few d in
+    let digits = d .decimal .ensures .1 .1 ∙ decimal-digits _ _ (d .decimal .ensures .1 .0) in
+    (put-more (rw digits at (put .put-bytes .ensures)) (omega arith) (put-byte _ _ _ (omega arith)), omega arith)
+
+pub put-number-spec : {M : Type 1} → statement M
+put-number-spec =
+    tie.close
+    (tie.spec
+    decimal-requires
+    array-share-prefix-digits
+    slice-aggregate-put-bytes
+    put-bytes-requires
+    slice-write-out
+    add-result
+    same-length
+    returns)

@@ -1,0 +1,85 @@
+-- `text` meets its contract: the refusal is printed, or the lines of all rules and then their number.
+use Prim.Native.Nat.{_≤_}
+use mathlib.Core.Path.{_≡_}
+use native.Mathlib.Omega.{arith}
+use lib.ListN.{length}
+use borrow.Author.Needs.{needs}
+use Rattle.printing.proofs.Putting.{put-length, put-more, put-written}
+use Rattle.printing.proofs.Answered.{printed-refused, few-rules, printed-rules}
+use Rattle.printing.proofs.text.Statement.{statement}
+use Rattle.printing.proofs.text.Tie as tie
+
+-- ---- with no refusal
+-- There are at most 1,021 rules.
+few : (c : tie.Else1) → c .before .before .before .translate .result .count ≤ 1021
+few c =
+    let t = c .before .before .before .translate .ensures in
+    few-rules _ (t .0) (t .1 .0) (c .if1 .left)
+
+-- The output keeps its length.
+kept : (c : tie.After-put-rules)
+    → length (c .put-rules .last .0) ≡ length (c .before .before .before .before .before .before .before .before .before .args .out .now)
+kept c = put-length (c .put-rules .ensures .0) (omega (arith, few (c .before .before .before), c .put-rules .ensures .0 .place))
+
+-- ---- the needs
+slice-aggregate-translate : tie.Need-slice-aggregate-translate
+slice-aggregate-translate c = search needs
+
+translate-requires : tie.Need-translate-requires
+translate-requires c κs = search needs
+
+slice-aggregate-put-last : tie.Need-slice-aggregate-put-last
+slice-aggregate-put-last c = search needs
+
+cast-put-last : tie.Need-cast-put-last
+cast-put-last c = search needs
+
+put-last-requires : tie.Need-put-last-requires
+put-last-requires c κs = search needs
+
+returns : tie.Need-returns
+returns c =
+    let t = c .before .before .before .before .before .before .before in
+    let e = printed-refused _ (t .translate .ensures .0) (c .before .before .before .before .if1 .taken) in
+    put-written (rw (← e) at (c .put-last .ensures))
+
+slice-aggregate-put-rules : tie.Need-slice-aggregate-put-rules
+slice-aggregate-put-rules c = search needs
+
+put-rules-requires : tie.Need-put-rules-requires
+put-rules-requires c κs =
+    let few = few (c .before .before) in
+    (omega arith, omega arith)
+
+slice-aggregate-put-last-2 : tie.Need-slice-aggregate-put-last-2
+slice-aggregate-put-last-2 c = search needs
+
+put-last-requires-2 : tie.Need-put-last-requires-2
+put-last-requires-2 c κs =
+    let put = c .before .before in
+    let few = few (put .before .before .before) in
+    (omega arith, omega (arith, kept put))
+
+returns-2 : tie.Need-returns-2
+returns-2 c =
+    let put = c .before .before .before in
+    let else = put .before .before .before in
+    let t = else .before .before .before .translate .ensures in
+    let e = printed-rules _ (t .0) (t .1 .0) (else .if1 .left) (t .1 .1) in
+    put-written (rw (← e) at (put-more (put .put-rules .ensures .0) (omega arith) (c .put-last2 .ensures)))
+
+pub text-spec : {M : Type 1} → statement M
+text-spec =
+    tie.close
+    (tie.spec
+    slice-aggregate-translate
+    translate-requires
+    slice-aggregate-put-last
+    cast-put-last
+    put-last-requires
+    returns
+    slice-aggregate-put-rules
+    put-rules-requires
+    slice-aggregate-put-last-2
+    put-last-requires-2
+    returns-2)

@@ -1,0 +1,60 @@
+-- Document 01, Examples by letter: what the program prints for the record bytes s, over 32 atoms.
+--   ascii t       the bytes of the text t
+--   decimal n     n in decimal
+--   told n end    n in decimal and the byte behind it
+--   word ws i j   word j of rule i of the words ws, and what parts it from the next
+--   line ws i     the six words of rule i on a line
+--   printed s     a line for each rule, then `rules` and how many; or only `refused` and the number
+use Prim.Native.Char.{code}
+use Prim.Native.Nat.{ℕ, zero, suc, _+_, _*_, _/_, _%_}
+use Prim.Native.String.{String, [] as []ˢ, _∷_ as _∷ˢ_}
+use mathlib.Core.Bool.{cond}
+use mathlib.Core.List.{List, [], _∷_, _++_}
+use lib.ListN.{length}
+use lib.Dec.{ltb, eqb}
+use Rattle.meaning.specs.Run.{each}
+use Rattle.meaning.specs.Rule.{ruleSize, ruleWord, words}
+use Rattle.meaning.specs.Translation.{translation}
+use Rattle.meaning.specs.Refusal.{firstOf, mostAtoms, mostRules, translateGrounds}
+use Rattle.meaning.specs.Service.{accepted}
+
+abbrev pub ascii : String → List ℕ
+ascii []ˢ = []
+ascii (c ∷ˢ t) = code c ∷ ascii t
+
+-- ---- numbers
+-- The digits of the tens, if there are any, and then that of the ones; m digits at most.
+unfoldable pub decimalIn : ℕ → ℕ → List ℕ
+decimalIn zero n = []
+decimalIn (suc m) n = cond (ltb n 10) [] (decimalIn m (n / 10)) ++ ((code "0" + n % 10) ∷ [])
+
+-- No number n has more than n + 1 digits.
+unfoldable pub decimal : ℕ → List ℕ
+decimal n = decimalIn (suc n) n
+
+unfoldable pub told : ℕ → ℕ → List ℕ
+told n end = decimal n ++ (end ∷ [])
+
+-- ---- lines
+abbrev pub lineEnd : ℕ
+lineEnd = code "\n"
+
+-- Behind the last word the line ends.
+unfoldable pub gap : ℕ → ℕ
+gap j = cond (eqb j 5) lineEnd (code " ")
+
+unfoldable pub word : List ℕ → ℕ → ℕ → List ℕ
+word ws i j = told (ruleWord ws i j) (gap j)
+
+unfoldable pub line : List ℕ → ℕ → List ℕ
+line ws i = each ruleSize (word ws i)
+
+-- ---- the whole text
+-- The translator has room for 1,021 rules, and there are never more.
+unfoldable pub printed : List ℕ → List ℕ
+printed s =
+    let refusal = firstOf (translateGrounds s mostAtoms (ruleSize * mostRules)) in
+    let rules = translation s mostAtoms in
+    accepted refusal
+    (each (length rules) (line (words rules)) ++ (ascii "rules " ++ told (length rules) lineEnd))
+    (ascii "refused " ++ told refusal lineEnd)

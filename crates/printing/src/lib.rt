@@ -1,0 +1,118 @@
+// The printing program: records come in, and their rules go out as text.
+ghost use mathlib.Core.Path.{_≡_};
+ghost use mathlib.Core.List.{_++_};
+ghost use Prim.Native.Nat.{_*_, _+_, _<_, _≤_};
+ghost use lib.ListN.{length};
+ghost use Rattle.meaning.specs.Run.{each, written};
+ghost use Rattle.printing.specs.Printed.{told, line, lineEnd, printed};
+ghost use Rattle.printing.specs.Printed.{gap as Printed·gap};
+ghost use Rattle.printing.specs.Put.{Put};
+
+// Room for the longest text: 1,021 lines of at most 36 bytes, and a last one of at most 12.
+pub const MOST_TEXT: usize = 36768;
+
+const SPACE: u8 = 32;
+
+const LINE_END: u8 = 10;
+
+// Prints the rules of the records on standard input. It reads one byte more than 255 records take, so that anything
+// longer is refused.
+pub fn run() {
+    let mut records = [0u8; 1531];
+    let n = io::read_full(libc::STDIN_FILENO, &mut records);
+    let mut out = [0u8; MOST_TEXT];
+    let size = text(&records[..n], &mut out);
+    io::write_all(libc::STDOUT_FILENO, &out[..size]);
+}
+
+// Puts the text for the records at the start of the output, and gives its length. The output is as long as its type says.
+pub fn text(records: &[u8], out: &mut [u8; MOST_TEXT]) -> usize
+    requires { ⌜ length (now out) ≡ 36768 ⌝ }
+    ensures size { λ e. ⌜ e ≡ length (printed (now (records .entry))) ⌝ }
+    ensures bytes { λ _. ⌜ now (out .exit) ≡ written (printed (now (records .entry))) (now (out .entry)) ⌝ }
+{
+    // Six words for each of 1,021 rules, so 10 is never the refusal.
+    let mut words = [0u16; 6126];
+    let t = translate::translate(records, 32, &mut words);
+    if t.refusal != 0 {
+        return put_last(out, 0, b"refused ", t.refusal as u64);
+    }
+    let at = put_rules(out, &words, t.count as usize);
+    put_last(out, at, b"rules ", t.count)
+}
+
+// Puts a line for each of n rules at the start of the output, and gives the place behind them.
+fn put_rules(out: &mut [u8], words: &[u16], n: usize) -> usize
+    requires { ⌜ (6 * n ≤ length (now words)) × (36 * n ≤ length (now out)) ⌝ }
+    ensures { λ e. ⌜ Put (now (out .entry)) 0 (each n (line (now (words .entry)))) e (now (out .exit)) × (e ≤ 36 * n) ⌝ }
+{
+    let mut at: usize = 0;
+    let mut i: usize = 0;
+    while i < n {
+        at = put_rule(out, at, words, i);
+        i += 1;
+    }
+    at
+}
+
+// Puts the six words of rule i at a place, on a line, and gives the place behind the line.
+fn put_rule(out: &mut [u8], at: usize, words: &[u16], i: usize) -> usize
+    requires { ⌜ (6 * i + 6 ≤ length (now words)) × (at + 36 ≤ length (now out)) ⌝ }
+    ensures { λ e. ⌜ Put (now (out .entry)) at (line (now (words .entry)) i) e (now (out .exit)) × (e ≤ at + 36) ⌝ }
+{
+    let mut e = at;
+    let mut j: usize = 0;
+    while j < 6 {
+        e = put_number(out, e, wide(words[6 * i + j]), gap(j));
+        j += 1;
+    }
+    e
+}
+
+// A word as a number.
+fn wide(w: u16) -> u64
+    ensures { λ n. ⌜ (n ≡ w) × (n < 65536) ⌝ }
+{
+    w as u64
+}
+
+// What stands behind word j of a rule.
+fn gap(j: usize) -> u8
+    ensures { λ b. ⌜ b ≡ Printed·gap j ⌝ }
+{
+    if j == 5 { LINE_END } else { SPACE }
+}
+
+// Puts the last line at a place, a word and a number, and gives the place behind the line.
+fn put_last(out: &mut [u8], at: usize, word: &[u8], n: u64) -> usize
+    requires { ⌜ (n < 65536) × (at + length (now word) + 6 ≤ length (now out)) ⌝ }
+    ensures { λ e. ⌜ Put (now (out .entry)) at (now (word .entry) ++ told n lineEnd) e (now (out .exit)) ⌝ }
+{
+    let e = put_bytes(out, at, word);
+    put_number(out, e, n, LINE_END)
+}
+
+// Puts the digits of n at a place, a byte behind them, and gives the place behind that.
+fn put_number(out: &mut [u8], at: usize, n: u64, end: u8) -> usize
+    requires { ⌜ (n < 65536) × (at + 6 ≤ length (now out)) ⌝ }
+    ensures { λ e. ⌜ Put (now (out .entry)) at (told n end) e (now (out .exit)) × (e ≤ at + 6) ⌝ }
+{
+    let mut digits = [0u8; 20];
+    let size = io::decimal(n, &mut digits);
+    let e = put_bytes(out, at, &digits[..size]);
+    out[e] = end;
+    e + 1
+}
+
+// Copies the bytes to the output at a place, and gives the place behind them.
+fn put_bytes(out: &mut [u8], at: usize, bytes: &[u8]) -> usize
+    requires { ⌜ at + length (now bytes) ≤ length (now out) ⌝ }
+    ensures { λ e. ⌜ Put (now (out .entry)) at (now (bytes .entry)) e (now (out .exit)) ⌝ }
+{
+    let mut i: usize = 0;
+    while i < bytes.len() {
+        out[at + i] = bytes[i];
+        i += 1;
+    }
+    at + i
+}
