@@ -1,9 +1,11 @@
 .PHONY: demo test bench
 
-# A planner in C checks a rule and values it over five plans.
+# A planner in C checks a rule and values it over five plans; the printing program prints the rules of a formula.
 demo:
 	bash tests/run
 	target/c/planner
+	rt check print
+	target/bin/print < crates/print/stdin
 
 # The gate.
 test:
