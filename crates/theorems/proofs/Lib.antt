@@ -15,3 +15,5 @@ pub mod SecondLine
 pub mod Standing
 pub mod InForm
 pub mod Agreement
+pub mod Told
+pub mod Paper

@@ -2,3 +2,4 @@
 pub mod Filling
 pub mod Demand3
 pub mod Why
+pub mod Paper
