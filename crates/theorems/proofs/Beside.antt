@@ -1,0 +1,61 @@
+-- A move's row: it looks at the instant beside, and gives the edge where there is none.
+--   shifted w L f k else    f at the instant beside k in the way w; `else` where there is none
+use Prim.Native.Nat.{ℕ, zero, suc, pred, _+_, _≤_, _<_}
+use mathlib.Core.Path.{_≡_, refl, sym}
+use mathlib.Core.Bool.{Bool, true, false, cond}
+use mathlib.Core.Logic.{inl, inr}
+use native.Mathlib.Omega.{arith}
+use lib.Dec.{eqb, ltb, eqb·suc-zero}
+use borrow.Author.Tests.{ltb-true, ltb-false, eq-eqb, ne-eqb, lt-ltb, le-ltb}
+use Rattle.meaning.specs.Record.{Mode, Way, ahead, back}
+use Rattle.meaning.specs.Value.{Row, moveSquare, modalRow}
+use Rattle.meaning.proofs.Bounds.{le-or-lt}
+use Rattle.meaning.proofs.Reach.{Beside}
+use Rattle.meaning.proofs.Within.{edge}
+use Rattle.meaning.proofs.Modality.{modal-move, modal-edge}
+use Rattle.theorems.specs.Shorthands.{after, before}
+
+abbrev pub shifted : Way → ℕ → Row → ℕ → ℕ → ℕ
+shifted ahead L f k else = after L f k else
+shifted back L f k else = before f k else
+
+pub move-row : (L : ℕ) (w : Way) (m : Mode) (c : Row) → ((j : ℕ) → j < L → c j ≤ 2) → (k : ℕ) → k < L
+    → modalRow m L (moveSquare w) c k ≡ shifted w L c k (edge m)
+unfolding Beside
+move-row L ahead m c low k l = go (ltb (k + 1) L) refl
+  where
+    go : (b : Bool) → ltb (k + 1) L ≡ b → modalRow m L (moveSquare ahead) c k ≡ cond b (c (k + 1)) (edge m)
+    go true e = let h = ltb-true (k + 1) L e in modal-move m L ahead c k (k + 1) h (low _ h) refl
+    go false e = let h = ltb-false (k + 1) L e in modal-edge m L ahead c k (λ j a b. omega arith)
+move-row L back m c low k l = go (ltb 0 k) refl
+  where
+    go : (b : Bool) → ltb 0 k ≡ b → modalRow m L (moveSquare back) c k ≡ cond b (c (pred k)) (edge m)
+    go true e =
+        let h = ltb-true 0 k e in
+        modal-move m L back c k (pred k) (omega arith) (low _ (omega arith)) (omega arith)
+    go false e = let h = ltb-false 0 k e in modal-edge m L back c k (λ j a b. omega arith)
+
+-- ---- where the two cases are one
+-- A row that has the edge's value past the last instant needs no test,
+pub after-all : (L : ℕ) (x : Row) (k e : ℕ) → (L ≤ k + 1 → x (k + 1) ≡ e) → after L x k e ≡ x (k + 1)
+after-all L x k e h = go (ltb (k + 1) L) refl
+  where
+    go : (b : Bool) → ltb (k + 1) L ≡ b → cond b (x (k + 1)) e ≡ x (k + 1)
+    go true _ = refl
+    go false d = sym (h (ltb-false (k + 1) L d))
+
+-- nor one that is another, an instant later, with that value at the first.
+pub before-all : (x y : Row) (k e : ℕ) → ((i : ℕ) → i + 1 ≡ k → x i ≡ y k) → y 0 ≡ e → before x k e ≡ y k
+before-all x y zero e d h = sym h
+before-all x y (suc k) e d h = rw (lt-ltb 0 (suc k) (omega arith)) (d k (omega arith))
+
+-- ---- the instants that have none beside
+pub last-only : (k L : ℕ) → k < L → after L (λ j. 0) k 2 ≡ cond (eqb (k + 1) L) 2 0
+last-only k L l = elim (le-or-lt L (k + 1)) [
+  | inl h ↦ rw (le-ltb (k + 1) L h, eq-eqb (k + 1) L (omega arith))
+  | inr h ↦ rw (lt-ltb (k + 1) L h, ne-eqb (k + 1) L (omega arith))
+]
+
+pub first-only : (k : ℕ) → before (λ j. 0) k 2 ≡ cond (eqb k 0) 2 0
+first-only zero = refl
+first-only (suc k) = rw (lt-ltb 0 (suc k) (omega arith), eqb·suc-zero)
