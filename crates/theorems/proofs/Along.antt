@@ -9,7 +9,7 @@ use native.Mathlib.Omega.{arith}
 use Rattle.meaning.specs.Record.{Mode, Way, ahead, back}
 use Rattle.meaning.specs.Formula.{Form, Path, modal, move, star, mayStand, sameWay, goes}
 use Rattle.meaning.specs.Value.{Row, valueOf, squareOf}
-use Rattle.meaning.proofs.Onward.{other, onward, values-bound}
+use Rattle.meaning.proofs.Onward.{other, Strictly, onward, values-bound}
 use Rattle.meaning.proofs.Within.{joined, edge}
 use Rattle.meaning.proofs.Solution.{Solves, star-solution}
 use Rattle.theorems.proofs.Stretches.{overIn, stretch-none, stretch-first, stretch-last, stretch-bound}
@@ -29,13 +29,12 @@ stretch back m L f k = overIn m 0 (k + 1) f
 module _ (L : ℕ) (cell : ℕ → ℕ → ℕ) (cells : (k i : ℕ) → k < L → cell k i ≤ 2) where
   -- A star has the row that solves its equation.
   pub star-row : (m : Mode) (w : Way) (P : Path) → goes (other w) P ≡ false → mayStand P ≡ false → (F : Form) (x : Row)
-      → Solves m L (squareOf L cell P) (valueOf L cell F) x → (k : ℕ) → k < L → valueOf L cell (modal m (star P) F) k ≡ x k
+      → Solves m L (squareOf L cell P) (valueOf L cell F) x → (k : ℕ) → k < L
+      → valueOf L cell (modal m (star P) F) k ≡ x k
   unfolding valueOf squareOf
   star-row m w P g s F x h k l =
-      sym (
-      star-solution m L (squareOf L cell P) w (λ i j z. onward L cell w P g i j z .1 s)
-      (valueOf L cell F) (values-bound L cell cells F) x h k l
-      )
+      let strict : (i j : ℕ) → 0 < squareOf L cell P i j → Strictly w i j = λ i j z. onward L cell w P g i j z .1 s in
+      sym (star-solution m L (squareOf L cell P) w strict (valueOf L cell F) (values-bound L cell cells F) x h k l)
 
   -- The stretch is the instant at hand and the rest of it.
   stretch-solves : (w : Way) (m : Mode) (f : Row) → ((k : ℕ) → k < L → f k ≤ 2)

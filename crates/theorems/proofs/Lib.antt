@@ -22,3 +22,8 @@ pub mod Beside
 pub mod Along
 pub mod Until
 pub mod Shorthands
+pub mod Bytes
+pub mod Blocks
+pub mod Atoms
+pub mod Postorder
+pub mod Expander

@@ -72,7 +72,8 @@ module _ (L : ℕ) (f g : Row) (low : (k : ℕ) → k < L → g k ≤ 2) where
 
   -- F and since, before k.
   since-back : (k : ℕ) → k < L
-      → modalRow diamond L (moveSquare back) (modalRow diamond L (testSquare f) (sinceRow f g)) k ≡ greatestIn 0 k (sinceAt f g k)
+      → modalRow diamond L (moveSquare back) (modalRow diamond L (testSquare f) (sinceRow f g)) k
+      ≡ greatestIn 0 k (sinceAt f g k)
   unfolding gate edge
   since-back k l =
       let x : Row = modalRow diamond L (testSquare f) (sinceRow f g) in

@@ -1,7 +1,7 @@
--- What each shorthand of document 01 is worth, by the values of its arguments: over every trace it means what its name says.
+-- What each shorthand of document 01 is worth, by the values of its arguments: what its name says, over every trace.
 --   greatestIn a b f, leastIn a b f     the greatest and the least of f a .. f (b - 1); 0 and 2 if there is none
 --   after L f k else, before f k else   f at the next instant, at the previous one; `else` where there is none
---   Means L f g k worth                 what each shorthand is worth at instant k, its arguments F and G being worth f and g
+--   Means L f g k worth                 what each shorthand is worth at instant k if its arguments F and G are worth f and g
 --   Shorthands                          over every trace, the expansions are worth that
 use Prim.Native.Nat.{ℕ, pred, _+_, _-_, _<_, _≤_, min, max}
 use mathlib.Core.Path.{_≡_}
@@ -26,7 +26,7 @@ after L f k else = cond (ltb (k + 1) L) (f (k + 1)) else
 abbrev pub before : Row → ℕ → ℕ → ℕ
 before f k else = cond (ltb 0 k) (f (pred k)) else
 
--- ---- the shorthands, in the document's order
+-- ---- the shorthands, kinds 32 to 47 in their order
 pub record Means (L : ℕ) (f g : Row) (k : ℕ) (worth : Shorthand → ℕ) : Type 0 where
   pub not : worth Shorthand.negated ≡ negation (f k)
   pub and : worth Shorthand.both ≡ min (f k) (g k)

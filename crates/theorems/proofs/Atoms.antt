@@ -1,0 +1,89 @@
+-- The atoms of a tree. In well-formed records every atom's number is below A, and so it is in the tree of each record: a node
+-- has the atoms of its children, and a shorthand's expansion those of its arguments.
+--   formAtoms F, pathAtoms P    the least number that all their atoms are below
+use Prim.Native.Nat.{ℕ, zero, suc, _+_, _≤_, _<_, max}
+use mathlib.Core.Bool.{Bool}
+use mathlib.Core.List.{List}
+use native.Mathlib.Nat.{le-refl}
+use native.Mathlib.Omega.{arith}
+use Rattle.meaning.specs.Record.{Kind, Shorthand, negated, both, either, implies, end, beside, along, until, since}
+use Rattle.meaning.specs.Record.{Use, unused, atomNumber, child, useA, useB, argumentA, argumentB, count, kindAt}
+use Rattle.meaning.specs.Formula.{Form, Path}
+use Rattle.meaning.specs.Shorthand.{expansion}
+use Rattle.meaning.specs.Tree.{Tree, asForm, asPath, nodeOf, treeAt, formAt}
+use Rattle.meaning.specs.WellFormed.{Fits, WellFormed}
+use Rattle.meaning.proofs.Nodes.{tree-of}
+
+unfoldable mutual
+  pub formAtoms : Form → ℕ
+  formAtoms (Form.constant v) = 0
+  formAtoms (Form.atom i) = i + 1
+  formAtoms (Form.modal m p f) = max (pathAtoms p) (formAtoms f)
+
+  pub pathAtoms : Path → ℕ
+  pathAtoms (Path.move w) = 0
+  pathAtoms (Path.test f) = formAtoms f
+  pathAtoms (Path.choice p q) = max (pathAtoms p) (pathAtoms q)
+  pathAtoms (Path.sequence p q) = max (pathAtoms p) (pathAtoms q)
+  pathAtoms (Path.star p) = pathAtoms p
+
+-- Of a tree taken as either sort.
+abbrev treeAtoms : Tree → ℕ
+treeAtoms t = max (formAtoms (asForm t)) (pathAtoms (asPath t))
+
+module _ (A : ℕ) where
+  -- A child's atoms are below A; of other fields only an atom's number is asked.
+  abbrev Low : Use → ℕ → Tree → Type 0
+  Low unused v t = Unit {0}
+  Low atomNumber v t = v < A
+  Low (child σ) v t = treeAtoms t ≤ A
+
+  -- A shorthand has its arguments' atoms.
+  expansion-atoms : (σ : Shorthand) (a b : ℕ) (t u : Tree) → Low (argumentA σ) a t → Low (argumentB σ) b u
+      → formAtoms (expansion σ (asForm t) (asForm u)) ≤ A
+  unfolding expansion argumentA argumentB formAtoms
+  expansion-atoms negated a b t u p q = omega arith
+  expansion-atoms both a b t u p q = omega arith
+  expansion-atoms either a b t u p q = omega arith
+  expansion-atoms implies a b t u p q = omega arith
+  expansion-atoms (end w) a b t u p q = omega arith
+  expansion-atoms (beside w m) a b t u p q = omega arith
+  expansion-atoms (along w m) a b t u p q = omega arith
+  expansion-atoms until a b t u p q = omega arith
+  expansion-atoms since a b t u p q = omega arith
+
+  -- A node has its children's.
+  node-atoms : (K : Kind) (a b : ℕ) (tree : ℕ → Tree) → Low (useA K) a (tree a) → Low (useB K) b (tree b)
+      → treeAtoms (nodeOf K a b tree) ≤ A
+  unfolding nodeOf useA useB asForm asPath formAtoms
+  node-atoms (Kind.constant v) a b tree p q = omega arith
+  node-atoms Kind.atom a b tree p q = omega arith
+  node-atoms (Kind.modal m) a b tree p q = omega arith
+  node-atoms (Kind.move w) a b tree p q = omega arith
+  node-atoms Kind.test a b tree p q = omega arith
+  node-atoms Kind.choice a b tree p q = omega arith
+  node-atoms Kind.sequence a b tree p q = omega arith
+  node-atoms Kind.star a b tree p q = omega arith
+  node-atoms (Kind.shorthand σ) a b tree p q = omega (arith, expansion-atoms σ a b (tree a) (tree b) p q)
+  node-atoms Kind.unknown a b tree p q = omega arith
+
+module _ {full : Bool} {s : List ℕ} {A : ℕ} (w : WellFormed full s A) where
+  -- A field that fits is low if the records before have low trees.
+  field-low : (r : ℕ) → ((q : ℕ) → q < r → treeAtoms (treeAt s q) ≤ A) → (u : Use) (v : ℕ) → Fits s A r u v
+      → Low A u v (treeAt s v)
+  field-low r before unused v f = tt
+  field-low r before atomNumber v f = f
+  field-low r before (child σ) v f = before v (f .0)
+
+  -- By induction on a bound of the record's number.
+  tree-atoms : (n r : ℕ) → r < n → r < count s → treeAtoms (treeAt s r) ≤ A
+  tree-atoms zero r b l = absurd (omega arith)
+  tree-atoms (suc n) r b l =
+      let K = kindAt s r in
+      let before : (q : ℕ) → q < r → treeAtoms (treeAt s q) ≤ A = λ q h. tree-atoms n q (omega arith) (omega arith) in
+      let first = field-low r before (useA K) _ (w .first r l) in
+      let second = field-low r before (useB K) _ (w .second r l) in
+      rw (tree-of w r l) (node-atoms A K _ _ (treeAt s) first second)
+
+  pub form-atoms : (r : ℕ) → r < count s → formAtoms (formAt s r) ≤ A
+  form-atoms r l = omega (arith, tree-atoms (suc r) r (le-refl _) l)
