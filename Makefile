@@ -1,4 +1,4 @@
-.PHONY: demo test bench
+.PHONY: demo test bench outside
 
 # A planner in C checks a rule and values it over five plans; the printing program prints the rules of a formula.
 demo:
@@ -14,3 +14,8 @@ test:
 # Speed beside three valuers, a judge and a translator in C, and the stack that the deepest formulas take.
 bench:
 	bash bench/run
+
+# The translation in a real solver: clingo counts the plans of source 004's elevator with our rules, beside that paper's Table 3.
+outside:
+	rt check print
+	python3 outside/run
