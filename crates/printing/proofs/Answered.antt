@@ -12,10 +12,10 @@ use lib.Seq.{getD-drop}
 use Rattle.meaning.specs.Run.{each, written}
 use Rattle.meaning.specs.Rule.{ruleSize, words}
 use Rattle.meaning.specs.Translation.{translation}
-use Rattle.meaning.specs.Refusal.{firstOf, mostAtoms, mostRules, translateGrounds}
+use Rattle.meaning.specs.Refusal.{firstOf, mostAtoms, mostRules, starredGrounds, translateGrounds}
 use Rattle.meaning.specs.Service.{translateAnswer, translateAfter}
 use Rattle.meaning.proofs.Bounds.{le-or-lt}
-use Rattle.translate.proofs.Answering.{early, refused, refused-room}
+use Rattle.translate.proofs.Answering.{refused, refused-room}
 use Rattle.printing.specs.Printed.{ascii, told, word, line, lineEnd, printed}
 
 -- ---- zeros
@@ -63,7 +63,7 @@ module _ (s : List ℕ) where
   enough : refusal ≡ 0 → ruleSize * rules ≤ ruleSize * mostRules
   enough e = elim (le-or-lt (ruleSize * rules) (ruleSize * mostRules)) [
     | inl h ↦ h
-    | inr h ↦ elim (le-or-lt (firstOf (early s mostAtoms)) 0) [
+    | inr h ↦ elim (le-or-lt (firstOf (starredGrounds s mostAtoms)) 0) [
       | inl l ↦ absurd (omega (arith, refused-room s mostAtoms (ruleSize * mostRules) (omega arith) h))
       | inr l ↦ absurd (omega (arith, refused s mostAtoms (ruleSize * mostRules) refl (λ z. omega arith)))
     ]
