@@ -17,11 +17,6 @@ pub mod InForm
 pub mod Agreement
 pub mod Told
 pub mod Paper
-pub mod Stretches
-pub mod Beside
-pub mod Along
-pub mod Until
-pub mod Shorthands
 pub mod Bytes
 pub mod Blocks
 pub mod Atoms

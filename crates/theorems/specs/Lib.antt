@@ -3,5 +3,4 @@ pub mod Filling
 pub mod Demand3
 pub mod Why
 pub mod Paper
-pub mod Shorthands
 pub mod Expander

@@ -5,18 +5,18 @@ use mathlib.Core.Path.{_≡_, refl, _∙_}
 use native.Mathlib.Nat.{le-refl}
 use native.Mathlib.Omega.{arith}
 use lib.Dec.{leb·suc-zero, eqb·suc-zero}
 use Rattle.meaning.specs.Three.{imp, negation}
 use Rattle.meaning.specs.Record.{Mode, diamond, box, Way, ahead, back, Shorthand, end, beside, along}
 use Rattle.meaning.specs.Formula.{Form, move, test, sequence, mayStand, sameWay, goes}
 use Rattle.meaning.specs.Shorthand.{expansion}
 use Rattle.meaning.specs.Value.{Row, testSquare, modalRow, valueOf, squareOf}
 use Rattle.meaning.proofs.Onward.{other, values-bound}
 use Rattle.meaning.proofs.Within.{joined, gate, edge}
 use Rattle.meaning.proofs.Modality.{modal-choice, modal-test}
-use Rattle.theorems.specs.Shorthands.{Means, Shorthands}
-use Rattle.theorems.proofs.Beside.{shifted, move-row, last-only, first-only}
-use Rattle.theorems.proofs.Along.{stretch, star-row, along-row}
-use Rattle.theorems.proofs.Until.{untilRow, sinceRow, until-solves, since-solves}
+use Rattle.meaning.specs.Worth.{Means, Shorthands}
+use Rattle.meaning.proofs.Beside.{shifted, move-row, last-only, first-only}
+use Rattle.meaning.proofs.Along.{stretch, star-row, along-row}
+use Rattle.meaning.proofs.Until.{untilRow, sinceRow, until-solves, since-solves}
 
 -- To imply false is to be negated.
 imp-false : (u : ℕ) → imp u 0 ≡ negation u

@@ -5,14 +5,14 @@ use Prim.Native.Nat.{ℕ, _+_, _≤_, _<_, min, zero-le}
 use mathlib.Core.Path.{_≡_, _∙_}
 use native.Mathlib.Nat.{le-refl}
 use native.Mathlib.Omega.{arith}
 use Rattle.meaning.specs.Record.{diamond, box, ahead, back}
 use Rattle.meaning.specs.Value.{Row, moveSquare, testSquare, sequenceSquare, modalRow}
 use Rattle.meaning.proofs.Within.{joined, gate, edge}
 use Rattle.meaning.proofs.Modality.{modal-bound, modal-sequence, modal-test}
 use Rattle.meaning.proofs.Solution.{Solves}
-use Rattle.theorems.specs.Shorthands.{greatestIn, leastIn}
-use Rattle.theorems.proofs.Stretches.{stretch-none, stretch-first, stretch-last, stretch-bound, stretch-gated}
-use Rattle.theorems.proofs.Beside.{move-row, after-all, before-all}
+use Rattle.meaning.specs.Worth.{greatestIn, leastIn}
+use Rattle.meaning.proofs.Stretches.{stretch-none, stretch-first, stretch-last, stretch-bound, stretch-gated}
+use Rattle.meaning.proofs.Beside.{move-row, after-all, before-all}
 
 -- What instant j adds to until at k, and to since.
 abbrev untilAt : Row → Row → ℕ → Row

@@ -7,13 +7,13 @@ use mathlib.Core.Logic.{inl, inr}
 use native.Mathlib.Omega.{arith}
 use lib.Dec.{eqb, ltb, eqb·suc-zero}
 use borrow.Author.Tests.{ltb-true, ltb-false, eq-eqb, ne-eqb, lt-ltb, le-ltb}
 use Rattle.meaning.specs.Record.{Mode, Way, ahead, back}
 use Rattle.meaning.specs.Value.{Row, moveSquare, modalRow}
 use Rattle.meaning.proofs.Bounds.{le-or-lt}
 use Rattle.meaning.proofs.Reach.{Beside}
 use Rattle.meaning.proofs.Within.{edge}
 use Rattle.meaning.proofs.Modality.{modal-move, modal-edge}
-use Rattle.theorems.specs.Shorthands.{after, before}
+use Rattle.meaning.specs.Worth.{after, before}
 
 abbrev pub shifted : Way → ℕ → Row → ℕ → ℕ → ℕ
 shifted ahead L f k else = after L f k else

@@ -6,14 +6,14 @@ use mathlib.Core.Path.{_≡_, refl, sym, ap, _∙_}
 use mathlib.Core.Bool.{false}
 use native.Mathlib.Nat.{le-refl}
 use native.Mathlib.Omega.{arith}
 use Rattle.meaning.specs.Record.{Mode, Way, ahead, back}
 use Rattle.meaning.specs.Formula.{Form, Path, modal, move, star, mayStand, sameWay, goes}
 use Rattle.meaning.specs.Value.{Row, valueOf, squareOf}
 use Rattle.meaning.proofs.Onward.{other, Strictly, onward, values-bound}
 use Rattle.meaning.proofs.Within.{joined, edge}
 use Rattle.meaning.proofs.Solution.{Solves, star-solution}
-use Rattle.theorems.proofs.Stretches.{overIn, stretch-none, stretch-first, stretch-last, stretch-bound}
-use Rattle.theorems.proofs.Beside.{move-row, after-all, before-all}
+use Rattle.meaning.proofs.Stretches.{overIn, stretch-none, stretch-first, stretch-last, stretch-bound}
+use Rattle.meaning.proofs.Beside.{move-row, after-all, before-all}
 
 -- A move's own way is not the other.
 turned : (w : Way) → sameWay (other w) w ≡ false

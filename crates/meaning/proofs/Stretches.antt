@@ -4,12 +4,12 @@ use Prim.Native.Nat.{ℕ, zero, suc, _+_, _-_, _≤_, _<_, min}
 use mathlib.Core.Path.{_≡_, refl, sym, ap, _∙_}
 use native.Mathlib.Nat.{add-zero}
 use native.Mathlib.Omega.{arith}
 use Rattle.meaning.specs.Three.{greatest, least}
 use Rattle.meaning.specs.Record.{Mode, diamond, box}
 use Rattle.meaning.specs.Value.{Row}
 use Rattle.meaning.proofs.Bounds.{greatest-same, greatest-within, least-bound}
 use Rattle.meaning.proofs.Within.{joined, edge}
-use Rattle.theorems.specs.Shorthands.{greatestIn, leastIn}
+use Rattle.meaning.specs.Worth.{greatestIn, leastIn}
 
 -- The greatest under a diamond, the least under a box: of n members, and over a stretch.
 abbrev over : Mode → ℕ → Row → ℕ
