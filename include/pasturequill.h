@@ -59,7 +59,25 @@ enum {
     PASTUREQUILL_TEST = 7,      /* P: a a formula       */
     PASTUREQUILL_CHOICE = 8,    /* P: a and b paths     */
     PASTUREQUILL_SEQUENCE = 9,  /* P: a and b paths     */
-    PASTUREQUILL_STAR = 10      /* P: a a path          */
+    PASTUREQUILL_STAR = 10,     /* P: a a path          */
+
+    /* shorthands, which only expanding takes */
+    PASTUREQUILL_NOT = 32,           /* F: a a formula       */
+    PASTUREQUILL_AND = 33,           /* F: a and b formulas  */
+    PASTUREQUILL_OR = 34,            /* F: a and b formulas  */
+    PASTUREQUILL_IMPLIES = 35,       /* F: a and b formulas  */
+    PASTUREQUILL_FINAL = 36,         /* F                    */
+    PASTUREQUILL_INITIAL = 37,       /* F                    */
+    PASTUREQUILL_NEXT = 38,          /* F: a a formula       */
+    PASTUREQUILL_WEAK_NEXT = 39,     /* F: a a formula       */
+    PASTUREQUILL_PREVIOUS = 40,      /* F: a a formula       */
+    PASTUREQUILL_WEAK_PREVIOUS = 41, /* F: a a formula       */
+    PASTUREQUILL_EVENTUALLY = 42,    /* F: a a formula       */
+    PASTUREQUILL_ALWAYS = 43,        /* F: a a formula       */
+    PASTUREQUILL_ONCE = 44,          /* F: a a formula       */
+    PASTUREQUILL_SO_FAR = 45,        /* F: a a formula       */
+    PASTUREQUILL_UNTIL = 46,         /* F: a and b formulas  */
+    PASTUREQUILL_SINCE = 47          /* F: a and b formulas  */
 };
 
 /* ---- refusals: the number that is given back where an input is not accepted */
@@ -77,7 +95,8 @@ enum {
     PASTUREQUILL_NO_ROOM = 10,      /* output shorter than needed */
     PASTUREQUILL_STAR_STANDS = 11,  /* a star's body may stand still (translating only) */
     PASTUREQUILL_STAR_TURNS = 12,   /* a star's body has step and back step (translating only) */
-    PASTUREQUILL_WRONG_RULES = 13   /* words not a multiple of 6 or over 6,126, a place over 3, no such symbol, previous outside place 2 */
+    PASTUREQUILL_WRONG_RULES = 13,  /* words not a multiple of 6 or over 6,126, a place over 3, no such symbol, previous outside place 2 */
+    PASTUREQUILL_TOO_LONG = 14      /* the formula written out has over 255 records (expanding only) */
 };
 
 /* Whether the bytes are the records of a formula over so many atoms, numbered from 0.
@@ -85,6 +104,22 @@ enum {
  *   atoms                   any number; 0 to 32 are taken
  * Gives 0, or the first of these that applies: 1; 8; for each record from the first 2, 3, 4, 5, 6; 6 for the last record; 7. */
 uint8_t pasturequill_check(const uint8_t *records, size_t records_size, uint64_t atoms);
+
+/* ---- expand
+ * Writes shorthands out, so that the other services take the formula: not F is [F?]false; F and G <F?>G; F or G <F? + G?>true; F implies G
+ * [F?]G; final [step]false; initial [back]false; next <step>F, weak next [step]F, previous <back>F, weak previous [back]F; eventually
+ * <step*>F, always [step*]F, once <back*>F, so far [back*]F; F until G <(F? ; step)*>G; F since G <(back ; F?)*>G. */
+typedef struct {
+    uint8_t refusal; /* 0, or the number of the first refusal that applies */
+    uint64_t count;  /* how many were written, records by expand and rules by translate; 0 on a refusal */
+} pasturequill_counted;
+
+/* The records of a formula in core kinds, in postorder: those of a, those of b, then the parent.
+ *   records, records_size   any bytes; kinds 0 to 10 and 32 to 47 are taken
+ *   atoms                   any number; 0 to 32 are taken
+ *   out, out_size           six bytes for each record are written at its start, the rest stays; on a refusal all stays
+ * Gives the first refusal that applies: 1; 8; for each record from the first 2, 3, 4, 5, 6; 6 for the last record; 7; 14; 10. */
+pasturequill_counted pasturequill_expand(const uint8_t *records, size_t records_size, uint64_t atoms, uint8_t *out, size_t out_size);
 
 /* ---- value
  * A trace has instants 1 to 32, and a row of `atoms` cells for each: 0 false, 1 true there only, 2 true here. The table gets a row of
@@ -106,11 +141,8 @@ pasturequill_valued pasturequill_value(const uint8_t *records, size_t records_si
 /* ---- translate
  * Rules over the atoms and one label for each record: symbol 0 is false, 1 true, 2 + i atom i, 2 + atoms + r the label of record r. A rule's
  * six words are told under judge below. Without the last rule, one filling of the labels meets the rules over any trace, and in it each
- * formula's label has that formula's value; the last rule asserts the whole formula at the first instant. */
-typedef struct {
-    uint8_t refusal; /* 0, or the number of the first refusal that applies */
-    uint64_t count;  /* the number of rules, at most four for each record and one; 0 on a refusal */
-} pasturequill_counted;
+ * formula's label has that formula's value; the last rule asserts the whole formula at the first instant. There are at most four rules
+ * for each record, and one. */
 
 /* The rules of a formula.
  *   records, records_size   any bytes

@@ -10,7 +10,7 @@ use lib.ListN.{length}
 use Rattle.meaning.specs.Run.{each}
 use Rattle.meaning.specs.Record.{recordSize, mostRecords, count, kindAt, zeroByte, fieldA, fieldB, known}
 use Rattle.meaning.specs.Record.{Use, unused, atomNumber, child, useA, useB}
-use Rattle.meaning.specs.Refusal.{Ground, firstOf, recordGrounds, treeGrounds, starGrounds, checkGrounds, starredGrounds, stray, late, beyond, misfit}
+use Rattle.meaning.specs.Refusal.{Ground, firstOf, recordGrounds, treeGrounds, starGrounds, formulaGrounds, checkGrounds, starredGrounds, stray, late, beyond, misfit}
 use Rattle.meaning.specs.Refusal.{ground1, ground2, ground3, ground4, ground5, ground6, ground6-last, ground7, ground8, ground11, ground12}
 use Rattle.meaning.specs.WellFormed.{Fits, WellFormed}
 use Rattle.meaning.specs.Service.{checkAnswer}
@@ -58,7 +58,7 @@ module _ (full : Bool) (s : List ℕ) (A : ℕ) where
     )
 
   -- All of them: the records are a tree.
-  pub clear-well-formed : Clear (ground1 s ∷ ground8 A ∷ treeGrounds full s A) ↔ WellFormed full s A
+  pub clear-well-formed : Clear (formulaGrounds full s A) ↔ WellFormed full s A
   unfolding treeGrounds ground8 ground6-last ground7
   clear-well-formed = simp (clear-append, each-clears, ground1-fails, record-clears, tests) (
     λ ((w, m, f), (a, (h, (l, o)))). record {
@@ -87,7 +87,7 @@ module _ (full : Bool) (s : List ℕ) (A : ℕ) where
       (numbered-each _ _ (λ r. omega arith)) (omega arith, numbered-each _ _ (λ r. omega arith))
 
   -- So the first number is 0 where the records are a tree, and only there.
-  pub accepted : (firstOf (ground1 s ∷ ground8 A ∷ treeGrounds full s A) ≡ 0) ↔ WellFormed full s A
+  pub accepted : (firstOf (formulaGrounds full s A) ≡ 0) ↔ WellFormed full s A
   unfolding ground1 ground8
   accepted = (
     λ e. clear-well-formed .0 (none-clear _ (omega arith, (omega arith, tree-numbered)) e),

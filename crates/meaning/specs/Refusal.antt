@@ -170,11 +170,15 @@ treeGrounds full s A = each (count s) (recordGrounds full s A) ++ (ground6-last 
 unfoldable pub starGrounds : List ℕ → List Ground
 starGrounds s = each (count s) (λ r. ground12 s r ∷ ground11 s r ∷ [])
 
+-- What the services without a trace ask of the formula.
+abbrev pub formulaGrounds : Bool → List ℕ → ℕ → List Ground
+formulaGrounds full s A = ground1 s ∷ ground8 A ∷ treeGrounds full s A
+
 unfoldable pub checkGrounds : List ℕ → ℕ → List Ground
-checkGrounds s A = ground1 s ∷ ground8 A ∷ treeGrounds false s A
+checkGrounds s A = formulaGrounds false s A
 
 unfoldable pub expandGrounds : List ℕ → ℕ → ℕ → List Ground
-expandGrounds s A room = ground1 s ∷ ground8 A ∷ treeGrounds true s A ++ (ground14 (wholeForm s) ∷ ground10 (recordSize * wholeForm s) room ∷ [])
+expandGrounds s A room = formulaGrounds true s A ++ (ground14 (wholeForm s) ∷ ground10 (recordSize * wholeForm s) room ∷ [])
 
 unfoldable pub valueGrounds : List ℕ → ℕ → ℕ → List ℕ → ℕ → List Ground
 valueGrounds s A L cells room =

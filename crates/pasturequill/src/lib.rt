@@ -1,7 +1,7 @@
 // The front door: the services as a C program calls them. No function here has a `requires`; each states its complete outcome,
 // the answer and every lent buffer, on every input. Document 01's words for these are in the crate `meaning`, in specs/Service.
 ghost use mathlib.Core.Path.{_≡_};
-ghost use Rattle.meaning.specs.Service.{checkAnswer, valueAnswer, valueAfter, translateAnswer, translateAfter, judgeAnswer};
+ghost use Rattle.meaning.specs.Service.{checkAnswer, expandAnswer, expandAfter, valueAnswer, valueAfter, translateAnswer, translateAfter, judgeAnswer};
 use rules::Judged;
 use translate::Counted;
 use value::Valued;
@@ -12,6 +12,16 @@ pub extern "C" fn pasturequill_check(records: &[u8], atoms: u64) -> u8
     ensures { λ x. ⌜ x ≡ checkAnswer (now (records .entry)) atoms ⌝ }
 {
     records::check(records, atoms)
+}
+
+// Expand: the number of records of the formula in core kinds, and in the output these records in postorder, six bytes each.
+#[no_mangle]
+pub extern "C" fn pasturequill_expand(records: &[u8], atoms: u64, out: &mut [u8]) -> expand::Counted
+    ensures refusal { λ v. ⌜ v .refusal ≡ expandAnswer (now (records .entry)) atoms (now (out .entry)) .refusal ⌝ }
+    ensures count { λ v. ⌜ v .count ≡ expandAnswer (now (records .entry)) atoms (now (out .entry)) .count ⌝ }
+    ensures bytes { λ v. ⌜ now (out .exit) ≡ expandAfter (now (records .entry)) atoms (now (out .entry)) ⌝ }
+{
+    expand::expand(records, atoms, out)
 }
 
 // Value: the whole formula's value at the first instant, and in the table each record's values, a row of `instants` bytes each.

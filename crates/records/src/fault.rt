@@ -5,7 +5,7 @@ ghost use Prim.Native.Nat.{pred, _<_, _≤_};
 ghost use lib.ListN.{length};
 ghost use Rattle.meaning.specs.Run.{each};
 ghost use Rattle.meaning.specs.Record.{count, mostRecords};
-ghost use Rattle.meaning.specs.Refusal.{firstOf, ground1, ground7, ground8, stray, late, beyond, misfit, recordGrounds, treeGrounds};
+ghost use Rattle.meaning.specs.Refusal.{firstOf, ground1, ground7, ground8, stray, late, beyond, misfit, recordGrounds, treeGrounds, formulaGrounds};
 ghost use Rattle.records.specs.Code.{useOf};
 ghost use Rattle.records.specs.Places.{Added, Places};
 use crate::layout;
@@ -26,7 +26,7 @@ pub fn wrong_length(s: &[u8]) -> bool
 }
 
 // 8: over 32 atoms.
-pub fn too_many(atoms: u64) -> bool
+fn too_many(atoms: u64) -> bool
     ensures { λ b. ⌜ b ≡ ground8 atoms .applies ⌝ }
 {
     32 < atoms
@@ -195,4 +195,18 @@ pub fn tree_refusal(s: &[u8], full: bool, atoms: u64) -> u8
         return 6;
     }
     places_refusal(s)
+}
+
+// ---- what every service without a trace asks of the formula
+// 1, 8, then those of the records.
+pub fn formula_refusal(s: &[u8], full: bool, atoms: u64) -> u8
+    ensures { λ x. ⌜ x ≡ firstOf (formulaGrounds full (now (s .entry)) atoms) ⌝ }
+{
+    if wrong_length(s) {
+        return 1;
+    }
+    if too_many(atoms) {
+        return 8;
+    }
+    tree_refusal(s, full, atoms)
 }

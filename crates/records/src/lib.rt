@@ -10,11 +10,5 @@ ghost use Rattle.meaning.specs.Service.{checkAnswer};
 pub fn check(records: &[u8], atoms: u64) -> u8
     ensures { λ x. ⌜ x ≡ checkAnswer (now (records .entry)) atoms ⌝ }
 {
-    if fault::wrong_length(records) {
-        return 1;
-    }
-    if fault::too_many(atoms) {
-        return 8;
-    }
-    fault::tree_refusal(records, false, atoms)
+    fault::formula_refusal(records, false, atoms)
 }

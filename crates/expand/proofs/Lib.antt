@@ -1,0 +1,9 @@
+-- What the proofs of several functions cite.
+pub mod Stepping
+pub mod Sized
+pub mod Row
+pub mod Putting
+pub mod Parts
+pub mod Writing
+pub mod Counting
+pub mod Answering

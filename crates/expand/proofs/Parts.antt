@@ -1,0 +1,116 @@
+-- One step of a record. A step that fits and is a part's goes to an earlier record, whose tree it writes; any other writes one record,
+-- whose fields fit two bytes.
+use Prim.Native.Nat.{ℕ, _<_, _≤_}
+use mathlib.Core.Path.{_≡_, refl, sym}
+use mathlib.Core.Bool.{Bool, true, false, cond, true≢false}
+use mathlib.Core.List.{List}
+use native.Mathlib.Omega.{arith}
+use lib.Dec.{eqb, ltb}
+use borrow.Author.Tests.{lt-ltb, le-ltb}
+use Rattle.meaning.specs.Record.{Sort, Use, unused, atomNumber, child, useA, useB, kindOf, kindAt, fieldA, fieldB, recordBytes, mostRecords, sortOf}
+use Rattle.meaning.specs.Tree.{treeAt}
+use Rattle.meaning.specs.WellFormed.{Fits}
+use Rattle.meaning.proofs.Nodes.{tree-of}
+use Rattle.expand.specs.Steps.{stepsOf, fieldFrom, fieldSize, children, ownA, ownB, partOf, partUse, stepFrom, stepSize}
+use Rattle.expand.specs.Asking.{Asked, bytesAt, sizeAt, stepBytes, stepCount, isChild, isAtom, fits}
+use Rattle.expand.proofs.Stepping.{stepsFrom, node-from}
+use Rattle.expand.proofs.Sized.{stepsSize, node-size}
+use Rattle.expand.proofs.Row.{both-true}
+
+is-child : (u : Use) → isChild u ≡ true → (σ : Sort) × (u ≡ child σ)
+unfolding isChild
+is-child unused e = absurd (true≢false (sym e))
+is-child atomNumber e = absurd (true≢false (sym e))
+is-child (child σ) e = (σ, refl)
+
+is-atom : (u : Use) → isAtom u ≡ true → u ≡ atomNumber
+unfolding isAtom
+is-atom unused e = absurd (true≢false (sym e))
+is-atom atomNumber e = refl
+is-atom (child σ) e = absurd (true≢false (sym e))
+
+either-below : (c : Bool) (x y m : ℕ) → x < m → y < m → cond c x y < m
+either-below true x y m h l = h
+either-below false x y m h l = l
+
+-- What a row of steps of record r writes, and how many records that are.
+module _ (s : List ℕ) (r : ℕ) where
+  abbrev pub rowBytes : List ℕ → ℕ → ℕ → List ℕ
+  rowBytes = stepsFrom (kindAt s r) (fieldA s r) (fieldB s r) (treeAt s)
+
+  abbrev pub rowCount : List ℕ → ℕ
+  rowCount = stepsSize (kindAt s r) (fieldA s r) (fieldB s r) (treeAt s)
+
+module _ {s : List ℕ} {r : ℕ} (w : Asked s r) where
+  -- ---- all steps: the record's tree
+  pub bytes-stepped : (n : ℕ) → bytesAt s r n ≡ rowBytes s r (stepsOf (kindAt s r)) n n
+  bytes-stepped n =
+      rw (tree-of (w .formed) r (w .index)) (node-from _ _ _ (treeAt s) n (w .formed .kinds r (w .index)))
+
+  pub size-stepped : sizeAt s r ≡ rowCount s r (stepsOf (kindAt s r))
+  size-stepped = rw (tree-of (w .formed) r (w .index)) (node-size _ _ _ (treeAt s) (w .formed .kinds r (w .index)))
+
+  module _ (d : ℕ) (f : fits (kindAt s r) d ≡ true) where
+    -- ---- a part's step
+    abbrev q : ℕ
+    q = partOf d (fieldA s r) (fieldB s r)
+
+    module _ (part : 14 ≤ d) where
+      held : (σ : Sort) × (partUse (kindAt s r) d ≡ child σ)
+      unfolding fits
+      held = is-child _ (both-true (ltb d 16) _ (rw (le-ltb d 14 part) at f) .1)
+
+      field-fits : Fits s (w .atoms) r (partUse (kindAt s r) d) q
+      unfolding partUse partOf
+      field-fits = go (eqb d 14)
+        where
+          go : (first : Bool)
+              → Fits s (w .atoms) r (cond first (useA (kindAt s r)) (useB (kindAt s r))) (cond first (fieldA s r) (fieldB s r))
+          go true = w .formed .first r (w .index)
+          go false = w .formed .second r (w .index)
+
+      child-fits : (q < r) × (sortOf (kindAt s q) ≡ held .0)
+      child-fits = rw (held .1) at field-fits
+
+      pub part-asked : (q < r) × Asked s q
+      part-asked =
+          let (l, _) = child-fits in
+          (l, record { atoms = w .atoms; formed = w .formed; index = omega (arith, w .index) })
+
+      pub part-bytes : (under n : ℕ) → stepBytes s r d under n ≡ bytesAt s q n
+      unfolding stepFrom fieldFrom
+      part-bytes under n = rw (le-ltb d 14 part, held .1, child-fits .1)
+
+      pub part-count : stepCount s r d ≡ sizeAt s q
+      unfolding stepSize fieldSize
+      part-count = rw (le-ltb d 14 part, held .1, child-fits .1)
+
+    -- ---- an own record
+    module _ (own : d < 14) where
+      pub own-bytes : (under n : ℕ) → stepBytes s r d under n ≡ recordBytes d (ownA d (fieldA s r) under n) (ownB d n)
+      unfolding stepFrom
+      own-bytes under n = rw (lt-ltb d 14 own)
+
+      pub own-count : stepCount s r d ≡ 1
+      unfolding stepSize
+      own-count = rw (lt-ltb d 14 own)
+
+      atom-small : cond (eqb d 2) (fieldA s r) 0 < 65_536
+      unfolding fits
+      atom-small = go (eqb d 2) refl
+        where
+          go : (c : Bool) → eqb d 2 ≡ c → cond c (fieldA s r) 0 < 65_536
+          go true e =
+              let u = is-atom (useA (kindAt s r)) (rw (lt-ltb d 14 own, e) at f) in
+              let a : fieldA s r < w .atoms = rw u at (w .formed .first r (w .index)) in
+              omega (arith, w .formed .atoms)
+          go false e = omega arith
+
+      pub own-small : (under n : ℕ) → under ≤ mostRecords → n ≤ mostRecords
+          → (ownA d (fieldA s r) under n < 65_536) × (ownB d n < 65_536)
+      unfolding ownA ownB
+      own-small under n h l =
+          let c = children (kindOf d) in (
+            either-below (eqb c 0) _ _ _ atom-small (either-below (eqb c 1) _ _ _ (omega arith) (omega arith)),
+            either-below (ltb c 2) _ _ _ (omega arith) (omega arith),
+          )

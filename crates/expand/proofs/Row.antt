@@ -1,0 +1,86 @@
+-- Rows read digit by digit. A row's lowest digit is its first step, the other digits are those of the rest, and only a row with no step
+-- left is 1. Every step of a kind's row fits the kind.
+use Prim.Native.Nat.{ℕ, _/_, _%_, _<_}
+use mathlib.Core.Path.{_≡_, refl, sym, _∙_}
+use mathlib.Core.Bool.{Bool, true, false, _&&_, true≢false}
+use mathlib.Core.List.{List, [], _∷_}
+use native.Mathlib.Omega.{arith}
+use lib.Dec.{ltb}
+use borrow.Author.Tests.{ltb-true}
+use Rattle.meaning.specs.Record.{Kind, kinds, kindOf, useA, useB, argumentA, argumentB}
+use Rattle.meaning.specs.Shorthand.{expansion}
+use Rattle.meaning.specs.Tree.{modalNumber, moveNumber}
+use Rattle.records.proofs.Kind.{onward}
+use Rattle.expand.specs.Steps.{formSteps, pathSteps, stepsOf, digits, rowOf, partUse}
+use Rattle.expand.specs.Asking.{isChild, isAtom, fits}
+
+pub both-true : (a b : Bool) → (a && b) ≡ true → (a ≡ true) × (b ≡ true)
+both-true true b e = (refl, e)
+both-true false b e = absurd (true≢false (sym e))
+
+-- Every step of the list fits the kind.
+unfoldable pub allFit : Kind → List ℕ → Bool
+allFit K [] = true
+allFit K (d ∷ ds) = fits K d && allFit K ds
+
+pub steps-fit : (number : ℕ) → true ≡ allFit (kindOf number) (stepsOf (kindOf number))
+unfolding allFit fits isChild isAtom partUse useA useB argumentA argumentB
+    kinds stepsOf formSteps pathSteps expansion modalNumber moveNumber
+steps-fit number = onward (λ (K : Kind). allFit K (stepsOf K)) 0 48 refl number (omega arith)
+
+-- A step that fits is a digit.
+fits-digit : (K : Kind) (d : ℕ) → fits K d ≡ true → d < 16
+unfolding fits
+fits-digit K d = go (ltb d 14) refl
+  where
+    go : (own : Bool) → ltb d 14 ≡ own → fits K d ≡ true → d < 16
+    go true e h = omega (arith, ltb-true d 14 e)
+    go false e h = ltb-true d 16 (both-true (ltb d 16) _ (rw e at h) .0)
+
+positive : (ds : List ℕ) → 0 < digits ds
+unfolding digits
+positive [] = omega arith
+positive (d ∷ ds) = omega (arith, positive ds)
+
+-- ---- what is left of a row
+pub record Rest (K : Kind) (rest : ℕ) : Type 0 where
+  pub left : List ℕ
+  pub row : rest ≡ digits left
+  pub fit : allFit K left ≡ true
+
+-- All of it.
+abbrev pub rest-all : (number : ℕ) {rest : ℕ} → rest ≡ rowOf (kindOf number) → Rest (kindOf number) rest
+rest-all number e = record { left = stepsOf (kindOf number); row = e; fit = sym (steps-fit number) }
+
+-- Nothing.
+none-left : (ds : List ℕ) → 1 ≡ digits ds → ds ≡ []
+unfolding digits
+none-left [] e = refl
+none-left (d ∷ ds) e = absurd (omega (arith, positive ds))
+
+pub rest-none : {K : Kind} {rest : ℕ} (g : Rest K rest) → rest ≡ 1 → g .left ≡ []
+rest-none g e = none-left (g .left) (sym e ∙ g .row)
+
+-- A step and the rest behind it.
+pub record Read (K : Kind) (rest : ℕ) (ds : List ℕ) : Type 0 where
+  pub fit : fits K (rest % 16) ≡ true
+  pub less : rest / 16 < rest
+  pub behind : Rest K (rest / 16)
+  pub all : ds ≡ rest % 16 ∷ behind .left
+
+read-row : {K : Kind} {rest : ℕ} (ds : List ℕ) → rest ≡ digits ds → allFit K ds ≡ true → (rest ≡ 1 → ⊥) → Read K rest ds
+unfolding digits allFit
+read-row [] e h n = absurd (n e)
+read-row {K} {rest} (d ∷ ds) e h n =
+    let (f, g) = both-true (fits K d) (allFit K ds) h in
+    let low = fits-digit K d f in
+    let digit : d ≡ rest % 16 = omega arith in
+    record {
+      fit = rw (← digit) f;
+      less = omega (arith, positive ds);
+      behind = record { left = ds; row = omega arith; fit = g };
+      all = rw digit;
+    }
+
+pub rest-read : {K : Kind} {rest : ℕ} (g : Rest K rest) → (rest ≡ 1 → ⊥) → Read K rest (g .left)
+rest-read g n = read-row (g .left) (g .row) (g .fit) n

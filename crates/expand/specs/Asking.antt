@@ -1,0 +1,63 @@
+-- What is asked of records and of the room, and what was written.
+--   Asked s r                    record r of a formula in which shorthands may stand
+--   bytesAt s r n, sizeAt s r    the records of its tree from number n on, and how many they are
+--   stepBytes s r d under n      those of its step d
+--   stepCount s r d              how many these are
+--   fits kind d                  a record of the kind may have the step d
+--   put old at new               the buffer `old` with `new` at a place
+--   Room n size out              so many records fit from number n on
+--   Wrote bytes n size old e new    the bytes of so many records were written from number n on, and e is the number behind them
+use Prim.Native.Nat.{ℕ, _+_, _*_, _<_, _≤_}
+use mathlib.Core.Path.{_≡_}
+use mathlib.Core.Bool.{Bool, true, false, cond, _&&_}
+use mathlib.Core.List.{List, _++_}
+use lib.Dec.{eqb, ltb}
+use lib.ListN.{length, take, drop}
+use Rattle.meaning.specs.Record.{Kind, Use, unused, atomNumber, child, useA, recordSize, mostRecords, count, kindAt, fieldA, fieldB, sortOf}
+use Rattle.meaning.specs.Tree.{treeAt}
+use Rattle.meaning.specs.WellFormed.{WellFormed}
+use Rattle.expand.specs.Steps.{treeFrom, treeSize, partUse, stepFrom, stepSize}
+
+pub record Asked (s : List ℕ) (r : ℕ) : Type 0 where
+  pub atoms : ℕ
+  pub formed : WellFormed true s atoms
+  pub index : r < count s
+
+abbrev pub bytesAt : List ℕ → ℕ → ℕ → List ℕ
+bytesAt s r n = treeFrom (sortOf (kindAt s r)) (treeAt s r) n
+
+abbrev pub sizeAt : List ℕ → ℕ → ℕ
+sizeAt s r = treeSize (sortOf (kindAt s r)) (treeAt s r)
+
+abbrev pub stepBytes : List ℕ → ℕ → ℕ → ℕ → ℕ → List ℕ
+stepBytes s r = stepFrom (kindAt s r) (fieldA s r) (fieldB s r) (treeAt s)
+
+abbrev pub stepCount : List ℕ → ℕ → ℕ → ℕ
+stepCount s r = stepSize (kindAt s r) (fieldA s r) (fieldB s r) (treeAt s)
+
+-- ---- a record's steps
+unfoldable pub isChild : Use → Bool
+isChild unused = false
+isChild atomNumber = false
+isChild (child sort) = true
+
+unfoldable pub isAtom : Use → Bool
+isAtom unused = false
+isAtom atomNumber = true
+isAtom (child sort) = false
+
+-- Only an atom's record has a step that writes an atom, and a part is a child.
+unfoldable pub fits : Kind → ℕ → Bool
+fits kind d = cond (ltb d 14) (cond (eqb d 2) (isAtom (useA kind)) true) (ltb d 16 && isChild (partUse kind d))
+
+-- ---- the buffer
+abbrev pub put : List ℕ → ℕ → List ℕ → List ℕ
+put old at new = take at old ++ new ++ drop (at + length new) old
+
+pub record Room (n size : ℕ) (out : List ℕ) : Type 0 where
+  pub few : n + size ≤ mostRecords
+  pub long : recordSize * (n + size) ≤ length out
+
+pub record Wrote (bytes : List ℕ) (n size : ℕ) (old : List ℕ) (e : ℕ) (new : List ℕ) : Type 0 where
+  pub next : e ≡ n + size
+  pub whole : new ≡ put old (recordSize * n) bytes

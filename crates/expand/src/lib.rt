@@ -1,0 +1,48 @@
+// Writing a formula's shorthands out.
+mod size;
+mod steps;
+mod write;
+
+ghost use mathlib.Core.Path.{_≡_};
+ghost use Rattle.meaning.specs.Service.{expandAnswer, expandAfter};
+use records::fault;
+use records::layout;
+
+// The refusal, or 0 and the number of records.
+#[repr(C)]
+pub struct Counted {
+    pub refusal: u8,
+    pub count: u64,
+}
+
+// The first refusal that applies; or the formula in core kinds, its records in postorder.
+pub fn expand(records: &[u8], atoms: u64, out: &mut [u8]) -> Counted
+    ensures refusal { λ v. ⌜ v .refusal ≡ expandAnswer (now (records .entry)) atoms (now (out .entry)) .refusal ⌝ }
+    ensures count { λ v. ⌜ v .count ≡ expandAnswer (now (records .entry)) atoms (now (out .entry)) .count ⌝ }
+    ensures bytes { λ v. ⌜ now (out .exit) ≡ expandAfter (now (records .entry)) atoms (now (out .entry)) ⌝ }
+{
+    let refusal = fault::formula_refusal(records, true, atoms);
+    if refusal != 0 {
+        return Counted { refusal, count: 0 };
+    }
+    let given = layout::record_count(records);
+    let last = given - 1;
+    let n = size::tree_size(records, last);
+    if layout::MOST_RECORDS < n {
+        return Counted {
+            refusal: 14,
+            count: 0,
+        };
+    }
+    if out.len() < layout::RECORD_SIZE * n {
+        return Counted {
+            refusal: 10,
+            count: 0,
+        };
+    }
+    write::write_tree(records, last, out, 0);
+    Counted {
+        refusal: 0,
+        count: n as u64,
+    }
+}
