@@ -100,15 +100,17 @@ unfolding checkAnswer checkGrounds
 check-accepts = accepted false
 
 -- ---- with the stars' grounds
+-- Each has a number above 0.
+pub starred-numbered : (s : List ℕ) (A : ℕ) → Numbered (starredGrounds s A)
+unfolding checkGrounds ground1 ground8 starGrounds ground11 ground12
+starred-numbered s A =
+    let stars = numbered-each (λ r. ground12 s r ∷ ground11 s r ∷ []) (count s) (λ r. omega arith) in
+    (omega arith, (omega arith, numbered-append (treeGrounds false s A) (starGrounds s) (tree-numbered false s A) stars))
+
 module _ (s : List ℕ) (A : ℕ) (e : firstOf (starredGrounds s A) ≡ 0) where
-  -- Where the first number is 0, none applies, of check and of the stars:
+  -- So where the first number is 0, none applies, of check and of the stars:
   both-clear : Clear (checkGrounds s A) × Clear (starGrounds s)
-  unfolding checkGrounds ground1 ground8 starGrounds ground11 ground12
-  both-clear =
-      let stars = numbered-each (λ r. ground12 s r ∷ ground11 s r ∷ []) (count s) (λ r. omega arith) in
-      let rest = numbered-append (treeGrounds false s A) (starGrounds s) (tree-numbered false s A) stars in
-      clear-append (checkGrounds s A) (starGrounds s) .0
-      (none-clear (starredGrounds s A) (omega arith, (omega arith, rest)) e)
+  both-clear = clear-append (checkGrounds s A) (starGrounds s) .0 (none-clear (starredGrounds s A) (starred-numbered s A) e)
 
   -- the records are a tree,
   pub starred-formed : WellFormed false s A

@@ -10,6 +10,7 @@ pub mod Labelled
 pub mod Continuing
 pub mod Determined
 pub mod OneFilling
+pub mod Written
 pub mod Demand
 pub mod SecondLine
 pub mod Standing

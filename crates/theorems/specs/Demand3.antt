@@ -3,15 +3,16 @@ use Prim.Native.Nat.{ℕ, pred, _+_, _*_, _<_, _≤_}
 use mathlib.Core.Path.{_≡_}
 use mathlib.Core.Logic.{_↔_}
 use mathlib.Core.List.{List}
-use lib.ListN.{length}
+use lib.ListN.{length, take}
 use Rattle.meaning.specs.Run.{cellOf}
 use Rattle.meaning.specs.Record.{count, kindAt, sortOf, formula, path}
 use Rattle.meaning.specs.Tree.{formAt, pathAt}
 use Rattle.meaning.specs.Value.{valueOf, squareOf, modalRow}
-use Rattle.meaning.specs.Rule.{words}
+use Rattle.meaning.specs.Rule.{ruleSize, words}
 use Rattle.meaning.specs.Translation.{translation, context, ruleSum}
 use Rattle.meaning.specs.Judge.{AllHold}
 use Rattle.meaning.specs.Refusal.{firstOf, starredGrounds}
+use Rattle.meaning.specs.Service.{translateAnswer, translateAfter}
 use Rattle.theorems.specs.Filling.{Trace, Filling, labelOf, Meets}
 
 -- The translator accepts the formula; whether its output has room is another matter.
@@ -36,6 +37,9 @@ pub record OneFilling (s : List ℕ) (A L : ℕ) (cells : List ℕ) : Type 0 whe
       ↔ (valueOf L (cellOf A cells) (formAt s (pred (count s))) 0 ≡ 2)
 
 pub record Demand3 : Type 0 where
+  -- Where the translator refuses nothing, the formula is accepted, and the rules' words stand at the output's start.
+  pub written : (s : List ℕ) (A : ℕ) (out : List ℕ) → translateAnswer s A out .refusal ≡ 0
+      → Accepted s A × (take (ruleSize * translateAnswer s A out .count) (translateAfter s A out) ≡ words (translation s A))
   pub one-filling : (s : List ℕ) (A L : ℕ) (cells : List ℕ) → Accepted s A → Trace A L cells → OneFilling s A L cells
   -- So many rules come from each record, and one asserts the whole formula: at most 4 n + 1.
   pub counted : (s : List ℕ) (A : ℕ) → length (translation s A) ≡ ruleSum s (count s) + 1
