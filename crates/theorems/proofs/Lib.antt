@@ -23,3 +23,4 @@ pub mod Blocks
 pub mod Atoms
 pub mod Postorder
 pub mod Expander
+pub mod OneOutcome

@@ -1,0 +1,66 @@
+-- No two outcomes fit, since each contract is equations: of the answer or each of its fields, and of each lent buffer. What both equal
+-- a third are equal; so outcomes that fit are equal part by part. The front door promises what the function behind it promises, so
+-- each service is proved once.
+use mathlib.Core.Path.{_≡_, sym, _∙_}
+use Rattle.pasturequill.proofs as door
+use Rattle.theorems.specs.OneOutcome.{OneFits, OneOutcome}
+
+-- ---- two that equal a third
+same : {A : Type 0} {x y z : A} → x ≡ z → y ≡ z → x ≡ y
+same p q = p ∙ sym q
+
+-- An answer with no fields, where no buffer is lent.
+alone : {A B : Type 0} {x y z : A} {v : B} → x ≡ z → y ≡ z → _≡_ {A = A × B} (x, v) (y, v)
+alone {v = v} p q = λ i. (same p q i, v)
+
+-- ---- an answer with fields, and a buffer
+valued : OneFits door.pasturequill_value.Kinds.ps door.pasturequill_value.Kinds.r door.pasturequill_value.Reads.Post
+valued κs a o u p q = λ i. (
+  record { refusal = same (p .0) (q .0) i; value = same (p .1 .0) (q .1 .0) i },
+  (tt, (tt, (tt, (tt, (same (p .1 .1) (q .1 .1) i, tt))))),
+)
+
+counted : OneFits door.pasturequill_translate.Kinds.ps door.pasturequill_translate.Kinds.r door.pasturequill_translate.Reads.Post
+counted κs a o u p q = λ i. (
+  record { refusal = same (p .0) (q .0) i; count = same (p .1 .0) (q .1 .0) i },
+  (tt, (tt, (same (p .1 .1) (q .1 .1) i, tt))),
+)
+
+judged : OneFits door.pasturequill_judge.Kinds.ps door.pasturequill_judge.Kinds.r door.pasturequill_judge.Reads.Post
+judged κs a o u p q = λ i. (
+  record {
+    refusal = same (p .0) (q .0) i;
+    holds = same (p .1 .0) (q .1 .0) i;
+    rule = same (p .1 .1 .0) (q .1 .1 .0) i;
+    instant = same (p .1 .1 .1) (q .1 .1 .1) i;
+  },
+  o .1,
+)
+
+-- ---- each function
+pub one-outcome : OneOutcome
+one-outcome = record {
+  least = λ κs a o u. alone;
+  greatest = λ κs a o u. alone;
+  imp = λ κs a o u. alone;
+  negation = λ κs a o u. alone;
+  record-count = λ κs a o u. alone;
+  kind-at = λ κs a o u. alone;
+  zero-at = λ κs a o u. alone;
+  field-a = λ κs a o u. alone;
+  field-b = λ κs a o u. alone;
+  wrong-length = λ κs a o u. alone;
+  too-many = λ κs a o u. alone;
+  tree-refusal = λ κs a o u. alone;
+  check = λ κs a o u. alone;
+  wrong-size = λ κs a o u. alone;
+  cells-refusal = λ κs a o u. alone;
+  value = λ κs a o u p q. valued κs a o u (p .0, (p .1, p .2)) (q .0, (q .1, q .2));
+  judge = λ κs a o u p q. judged κs a o u (p .refused, (p .held, (p .failing, p .failed))) (q .refused, (q .held, (q .failing, q .failed)));
+  translate = counted;
+  text = λ κs a o u p q. λ i. (same (p .0) (q .0) i, (tt, (same (p .1) (q .1) i, tt)));
+  pasturequill-check = λ κs a o u. alone;
+  pasturequill-value = valued;
+  pasturequill-translate = counted;
+  pasturequill-judge = judged;
+}

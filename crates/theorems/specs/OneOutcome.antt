@@ -1,0 +1,68 @@
+-- No two outcomes fit: what a public function answers, and leaves in each buffer that it is lent, its contract tells whole. `Post` of a
+-- function's `Reads` is its contract's `ensures` as plain facts, and its `Kinds` are its parameters' types and its answer's, all made from
+-- the source, so these theorems follow it. That some outcome fits is the function's own proof.
+--   Outcome ps r κs a     an answer of the kind r, and what stands in each buffer lent among the arguments a as the function returns
+--   Fits ps r Post κs a o the outcome o meets the contract at the arguments a, with the lifetimes κs
+--   OneFits ps r Post     two outcomes that fit at the same arguments are equal
+--   OneOutcome            so it is for every function that another crate or a C program can call
+-- `printing::run` is not among them: it answers nothing and is lent nothing, and no contract says what it writes.
+use Prim.Native.Nat.{ℕ}
+use mathlib.Core.Path.{_≡_}
+use mathlib.Core.List.{List}
+use contract.Lifetimes.{Lfts}
+use denote.Triple.Clauses.{Lasts, atExit}
+use borrow.Fn.Kinds.{PK, RK, Dens, Out, resT, endedOf}
+use Rattle.three.proofs as three
+use Rattle.records.proofs as records
+use Rattle.records.proofs.layout as layout
+use Rattle.records.proofs.fault as fault
+use Rattle.trace.proofs as trace
+use Rattle.value.proofs as value
+use Rattle.rules.proofs as rules
+use Rattle.translate.proofs as translate
+use Rattle.printing.proofs as printing
+use Rattle.pasturequill.proofs as door
+
+module _ {n : ℕ} (ps : List (PK n)) (r : RK n) where
+  abbrev pub Outcome : (κs : Lfts n) → Dens κs ps → Type 0
+  Outcome κs a = resT r κs .Denot × Lasts (endedOf n ps r) κs a
+
+  abbrev pub Fits : Out n ps r → (κs : Lfts n) (a : Dens κs ps) → Outcome κs a → Type 0
+  Fits Post κs a o = Post κs a (o .0) (atExit (endedOf n ps r) κs a (o .1))
+
+  abbrev pub OneFits : Out n ps r → Type 0
+  OneFits Post = (κs : Lfts n) (a : Dens κs ps) (o u : Outcome κs a) → Fits Post κs a o → Fits Post κs a u → o ≡ u
+
+pub record OneOutcome : Type 0 where
+  -- three
+  pub least : OneFits three.least.Kinds.ps three.least.Kinds.r three.least.Reads.Post
+  pub greatest : OneFits three.greatest.Kinds.ps three.greatest.Kinds.r three.greatest.Reads.Post
+  pub imp : OneFits three.imp.Kinds.ps three.imp.Kinds.r three.imp.Reads.Post
+  pub negation : OneFits three.negation.Kinds.ps three.negation.Kinds.r three.negation.Reads.Post
+  -- records
+  pub record-count : OneFits layout.record_count.Kinds.ps layout.record_count.Kinds.r layout.record_count.Reads.Post
+  pub kind-at : OneFits layout.kind_at.Kinds.ps layout.kind_at.Kinds.r layout.kind_at.Reads.Post
+  pub zero-at : OneFits layout.zero_at.Kinds.ps layout.zero_at.Kinds.r layout.zero_at.Reads.Post
+  pub field-a : OneFits layout.field_a.Kinds.ps layout.field_a.Kinds.r layout.field_a.Reads.Post
+  pub field-b : OneFits layout.field_b.Kinds.ps layout.field_b.Kinds.r layout.field_b.Reads.Post
+  pub wrong-length : OneFits fault.wrong_length.Kinds.ps fault.wrong_length.Kinds.r fault.wrong_length.Reads.Post
+  pub too-many : OneFits fault.too_many.Kinds.ps fault.too_many.Kinds.r fault.too_many.Reads.Post
+  pub tree-refusal : OneFits fault.tree_refusal.Kinds.ps fault.tree_refusal.Kinds.r fault.tree_refusal.Reads.Post
+  pub check : OneFits records.check.Kinds.ps records.check.Kinds.r records.check.Reads.Post
+  -- trace
+  pub wrong-size : OneFits trace.wrong_size.Kinds.ps trace.wrong_size.Kinds.r trace.wrong_size.Reads.Post
+  pub cells-refusal : OneFits trace.cells_refusal.Kinds.ps trace.cells_refusal.Kinds.r trace.cells_refusal.Reads.Post
+  -- value, rules, translate, printing
+  pub value : OneFits value.value.Kinds.ps value.value.Kinds.r value.value.Reads.Post
+  pub judge : OneFits rules.judge.Kinds.ps rules.judge.Kinds.r rules.judge.Reads.Post
+  pub translate : OneFits translate.translate.Kinds.ps translate.translate.Kinds.r translate.translate.Reads.Post
+  pub text : OneFits printing.text.Kinds.ps printing.text.Kinds.r printing.text.Reads.Post
+  -- the front door
+  pub pasturequill-check :
+      OneFits door.pasturequill_check.Kinds.ps door.pasturequill_check.Kinds.r door.pasturequill_check.Reads.Post
+  pub pasturequill-value :
+      OneFits door.pasturequill_value.Kinds.ps door.pasturequill_value.Kinds.r door.pasturequill_value.Reads.Post
+  pub pasturequill-translate :
+      OneFits door.pasturequill_translate.Kinds.ps door.pasturequill_translate.Kinds.r door.pasturequill_translate.Reads.Post
+  pub pasturequill-judge :
+      OneFits door.pasturequill_judge.Kinds.ps door.pasturequill_judge.Kinds.r door.pasturequill_judge.Reads.Post
