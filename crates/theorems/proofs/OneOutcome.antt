@@ -13,19 +13,22 @@ same p q = p ∙ sym q
 alone : {A B : Type 0} {x y z : A} {v : B} → x ≡ z → y ≡ z → _≡_ {A = A × B} (x, v) (y, v)
 alone {v = v} p q = λ i. (same p q i, v)
 
--- ---- an answer with fields, and a buffer
+-- ---- answers with fields
+-- Two, and the table.
 valued : OneFits door.pasturequill_value.Kinds.ps door.pasturequill_value.Kinds.r door.pasturequill_value.Reads.Post
 valued κs a o u p q = λ i. (
   record { refusal = same (p .0) (q .0) i; value = same (p .1 .0) (q .1 .0) i },
   (tt, (tt, (tt, (tt, (same (p .1 .1) (q .1 .1) i, tt))))),
 )
 
+-- Two, and the rules.
 counted : OneFits door.pasturequill_translate.Kinds.ps door.pasturequill_translate.Kinds.r door.pasturequill_translate.Reads.Post
 counted κs a o u p q = λ i. (
   record { refusal = same (p .0) (q .0) i; count = same (p .1 .0) (q .1 .0) i },
   (tt, (tt, (same (p .1 .1) (q .1 .1) i, tt))),
 )
 
+-- Four, and nothing is lent.
 judged : OneFits door.pasturequill_judge.Kinds.ps door.pasturequill_judge.Kinds.r door.pasturequill_judge.Reads.Post
 judged κs a o u p q = λ i. (
   record {

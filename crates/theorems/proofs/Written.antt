@@ -10,7 +10,7 @@ use borrow.Author.Tests.{eq-eqb}
 use Rattle.meaning.specs.Run.{written}
 use Rattle.meaning.specs.Rule.{ruleSize, words}
 use Rattle.meaning.specs.Translation.{translation}
-use Rattle.meaning.specs.Refusal.{firstOf, ground10, starredGrounds, translateGrounds}
+use Rattle.meaning.specs.Refusal.{ground10, starredGrounds, translateGrounds}
 use Rattle.meaning.specs.Service.{translateAnswer, translateAfter}
 use Rattle.meaning.proofs.First.{clear-none, clear-append, none-clear, numbered-append}
 use Rattle.meaning.proofs.Accepted.{starred-numbered}

@@ -1,4 +1,4 @@
--- The demands as theorems about the definitions of meaning.
+-- The demands as theorems about the definitions of meaning and the functions' contracts.
 pub mod Filling
 pub mod Demand3
 pub mod Why

@@ -1,11 +1,12 @@
--- No two outcomes fit: what a public function answers, and leaves in each buffer that it is lent, its contract tells whole. `Post` of a
--- function's `Reads` is its contract's `ensures` as plain facts, and its `Kinds` are its parameters' types and its answer's, all made from
--- the source, so these theorems follow it. That some outcome fits is the function's own proof.
---   Outcome ps r κs a     an answer of the kind r, and what stands in each buffer lent among the arguments a as the function returns
---   Fits ps r Post κs a o the outcome o meets the contract at the arguments a, with the lifetimes κs
---   OneFits ps r Post     two outcomes that fit at the same arguments are equal
---   OneOutcome            so it is for every function that another crate or a C program can call
--- `printing::run` is not among them: it answers nothing and is lent nothing, and no contract says what it writes.
+-- No two outcomes fit: a public function's contract tells its whole answer, and all that it leaves in each buffer that it is lent.
+-- A function's `Reads.Post` is the `ensures` of its source as plain facts, and its `Kinds`, ps and r, are the types of its parameters
+-- and its answer, so these theorems are about the contracts themselves. κs are the lifetimes of what is lent. That some outcome fits
+-- is the function's own proof.
+--   Outcome ps r κs a        an answer, and the contents at exit of each buffer that is lent among the arguments a
+--   Fits ps r Post κs a o    the outcome o at the arguments a meets the contract
+--   OneFits ps r Post        two outcomes at the same arguments that both meet it are equal
+--   OneOutcome               so it is for each function that another crate or a C program can call
+-- But for `printing::run`, which answers nothing and is lent nothing: no contract can say what it writes.
 use Prim.Native.Nat.{ℕ}
 use mathlib.Core.Path.{_≡_}
 use mathlib.Core.List.{List}
