@@ -23,7 +23,7 @@ pub fn kind_at(s: &[u8], r: usize) -> u8
     s[RECORD_SIZE * r]
 }
 
-pub fn zero_at(s: &[u8], r: usize) -> u8
+pub(crate) fn zero_at(s: &[u8], r: usize) -> u8
     requires { ⌜ r < count (now s) ⌝ }
     ensures { λ z. ⌜ z ≡ zeroByte (now (s .entry)) r ⌝ }
 {

@@ -21,6 +21,13 @@ valued κs a o u p q = λ i. (
   (tt, (tt, (tt, (tt, (same (p .1 .1) (q .1 .1) i, tt))))),
 )
 
+-- Two, and the records.
+expanded : OneFits door.pasturequill_expand.Kinds.ps door.pasturequill_expand.Kinds.r door.pasturequill_expand.Reads.Post
+expanded κs a o u p q = λ i. (
+  record { refusal = same (p .0) (q .0) i; count = same (p .1 .0) (q .1 .0) i },
+  (tt, (tt, (same (p .1 .1) (q .1 .1) i, tt))),
+)
+
 -- Two, and the rules.
 counted : OneFits door.pasturequill_translate.Kinds.ps door.pasturequill_translate.Kinds.r door.pasturequill_translate.Reads.Post
 counted κs a o u p q = λ i. (
@@ -49,20 +56,21 @@ one-outcome = record {
   negation = λ κs a o u. alone;
   record-count = λ κs a o u. alone;
   kind-at = λ κs a o u. alone;
-  zero-at = λ κs a o u. alone;
   field-a = λ κs a o u. alone;
   field-b = λ κs a o u. alone;
   wrong-length = λ κs a o u. alone;
-  too-many = λ κs a o u. alone;
   tree-refusal = λ κs a o u. alone;
+  formula-refusal = λ κs a o u. alone;
   check = λ κs a o u. alone;
   wrong-size = λ κs a o u. alone;
   cells-refusal = λ κs a o u. alone;
+  expand = expanded;
   value = λ κs a o u p q. valued κs a o u (p .0, (p .1, p .2)) (q .0, (q .1, q .2));
   judge = λ κs a o u p q. judged κs a o u (p .refused, (p .held, (p .failing, p .failed))) (q .refused, (q .held, (q .failing, q .failed)));
   translate = counted;
   text = λ κs a o u p q. λ i. (same (p .0) (q .0) i, (tt, (same (p .1) (q .1) i, tt)));
   pasturequill-check = λ κs a o u. alone;
+  pasturequill-expand = expanded;
   pasturequill-value = valued;
   pasturequill-translate = counted;
   pasturequill-judge = judged;

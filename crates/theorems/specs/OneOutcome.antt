@@ -17,6 +17,7 @@ use Rattle.three.proofs as three
 use Rattle.records.proofs as records
 use Rattle.records.proofs.layout as layout
 use Rattle.records.proofs.fault as fault
+use Rattle.expand.proofs as expand
 use Rattle.trace.proofs as trace
 use Rattle.value.proofs as value
 use Rattle.rules.proofs as rules
@@ -43,17 +44,17 @@ pub record OneOutcome : Type 0 where
   -- records
   pub record-count : OneFits layout.record_count.Kinds.ps layout.record_count.Kinds.r layout.record_count.Reads.Post
   pub kind-at : OneFits layout.kind_at.Kinds.ps layout.kind_at.Kinds.r layout.kind_at.Reads.Post
-  pub zero-at : OneFits layout.zero_at.Kinds.ps layout.zero_at.Kinds.r layout.zero_at.Reads.Post
   pub field-a : OneFits layout.field_a.Kinds.ps layout.field_a.Kinds.r layout.field_a.Reads.Post
   pub field-b : OneFits layout.field_b.Kinds.ps layout.field_b.Kinds.r layout.field_b.Reads.Post
   pub wrong-length : OneFits fault.wrong_length.Kinds.ps fault.wrong_length.Kinds.r fault.wrong_length.Reads.Post
-  pub too-many : OneFits fault.too_many.Kinds.ps fault.too_many.Kinds.r fault.too_many.Reads.Post
   pub tree-refusal : OneFits fault.tree_refusal.Kinds.ps fault.tree_refusal.Kinds.r fault.tree_refusal.Reads.Post
+  pub formula-refusal : OneFits fault.formula_refusal.Kinds.ps fault.formula_refusal.Kinds.r fault.formula_refusal.Reads.Post
   pub check : OneFits records.check.Kinds.ps records.check.Kinds.r records.check.Reads.Post
   -- trace
   pub wrong-size : OneFits trace.wrong_size.Kinds.ps trace.wrong_size.Kinds.r trace.wrong_size.Reads.Post
   pub cells-refusal : OneFits trace.cells_refusal.Kinds.ps trace.cells_refusal.Kinds.r trace.cells_refusal.Reads.Post
-  -- value, rules, translate, printing
+  -- expand, value, rules, translate, printing
+  pub expand : OneFits expand.expand.Kinds.ps expand.expand.Kinds.r expand.expand.Reads.Post
   pub value : OneFits value.value.Kinds.ps value.value.Kinds.r value.value.Reads.Post
   pub judge : OneFits rules.judge.Kinds.ps rules.judge.Kinds.r rules.judge.Reads.Post
   pub translate : OneFits translate.translate.Kinds.ps translate.translate.Kinds.r translate.translate.Reads.Post
@@ -61,6 +62,8 @@ pub record OneOutcome : Type 0 where
   -- the front door
   pub pasturequill-check :
       OneFits door.pasturequill_check.Kinds.ps door.pasturequill_check.Kinds.r door.pasturequill_check.Reads.Post
+  pub pasturequill-expand :
+      OneFits door.pasturequill_expand.Kinds.ps door.pasturequill_expand.Kinds.r door.pasturequill_expand.Reads.Post
   pub pasturequill-value :
       OneFits door.pasturequill_value.Kinds.ps door.pasturequill_value.Kinds.r door.pasturequill_value.Reads.Post
   pub pasturequill-translate :
