@@ -4,6 +4,7 @@
 
 #include <string.h>
 
+#include "elevator.h"
 #include "random.h"
 
 struct workload workloads[MOST_WORKLOADS];
@@ -71,30 +72,22 @@ static void respond(void)
     box(f, always, box(f, asked, answered));
 }
 
-/* The elevator's rule (13) of source 004: ((up* + down*) ; ready? ; serve)* ; wait* leads from the first instant to the final one. It is a
- * constraint, so the formula is twice negated. There are 11 floors; the elevator starts at the sixth, is called to the lowest and to the
- * highest, goes up, serves, goes down, serves, and waits four times. */
-enum { UP, DOWN, SERVE, WAIT, READY, AT, FLOORS = 11, CALLED = AT + FLOORS, ELEVATOR_ATOMS = CALLED + FLOORS };
+/* The elevator of source 004 with 11 floors: it goes up, serves, goes down, serves, and waits four times. Besides the rule's atoms there are
+ * those that say what ready means. */
+enum { FLOORS = 11, AT = ELEVATOR_ATOMS, CALLED = AT + FLOORS, MEANT_ATOMS = CALLED + FLOORS };
 
 static void ride(struct input *in)
 {
     static const char plan[] = "uuuuusddddddddddswwww";
-    int floor = 5, called[FLOORS] = {[0] = 1, [FLOORS - 1] = 1};
+    struct elevator e = elevator_at_first(FLOORS);
     memset(in->cells, 0, sizeof in->cells);
     for (size_t k = 0; k < in->instants; k++) {
         uint8_t *cells = in->cells + k * in->atoms;
-        char action = plan[k];
-        cells[UP] = action == 'u' ? 2 : 0;
-        cells[DOWN] = action == 'd' ? 2 : 0;
-        cells[SERVE] = action == 's' ? 2 : 0;
-        cells[WAIT] = action == 'w' ? 2 : 0;
-        cells[READY] = called[floor] ? 2 : 0;
-        cells[AT + floor] = 2;
+        put_instant(&e, plan[k], cells);
+        cells[AT + e.floor] = 2;
         for (int x = 0; x < FLOORS; x++)
-            cells[CALLED + x] = called[x] ? 2 : 0;
-        if (action == 's')
-            called[floor] = 0;
-        floor += (action == 'u') - (action == 'd');
+            cells[CALLED + x] = is_called(&e, x) ? 2 : 0;
+        e = after(e, plan[k]);
     }
 }
 
@@ -120,17 +113,9 @@ static size_t ready_test(struct formula *f, int written_out)
 
 static void elevator(const char *name, int written_out)
 {
-    struct input *in = one(name, ELEVATOR_ATOMS, 22);
+    struct input *in = one(name, MEANT_ATOMS, 22);
     struct formula *f = &in->formula;
-    size_t up = star(f, go(f, UP)), down = star(f, go(f, DOWN));
-    size_t run = choice(f, up, down), ready = ready_test(f, written_out);
-    size_t served = sequence(f, ready, go(f, SERVE));
-    size_t rounds = star(f, sequence(f, run, served));
-    size_t waits = star(f, go(f, WAIT)), whole = sequence(f, rounds, waits);
-    size_t last = step(f);
-    size_t final = box(f, last, no(f));
-    size_t kept = diamond(f, whole, final);
-    not_so(f, not_so(f, kept));
+    rule_13(f, ready_test(f, written_out));
     ride(in);
     in->value = 2;
 }

@@ -46,12 +46,15 @@ static inline size_t choice(struct formula *f, size_t p, size_t q) { return add(
 static inline size_t sequence(struct formula *f, size_t p, size_t q) { return add(f, PASTUREQUILL_SEQUENCE, p, q); }
 static inline size_t star(struct formula *f, size_t p) { return add(f, PASTUREQUILL_STAR, p, 0); }
 
-/* The path that goes on where an atom holds: i? ; step. */
-static inline size_t go(struct formula *f, size_t i)
+/* The path that goes on where a formula holds: G? ; step. */
+static inline size_t go_if(struct formula *f, size_t g)
 {
-    size_t tested = test(f, atom(f, i));
+    size_t tested = test(f, g);
     return sequence(f, tested, step(f));
 }
+
+/* The path that goes on where an atom holds. */
+static inline size_t go(struct formula *f, size_t i) { return go_if(f, atom(f, i)); }
 
 /* Either neighbour: step + back. */
 static inline size_t either_way(struct formula *f)
@@ -60,11 +63,17 @@ static inline size_t either_way(struct formula *f)
     return choice(f, on, back(f));
 }
 
-/* Not: [F?]false. */
+/* Not: [G?]false. */
 static inline size_t not_so(struct formula *f, size_t g)
 {
     size_t tested = test(f, g);
     return box(f, tested, no(f));
 }
+
+/* And: <G?>H. */
+static inline size_t both(struct formula *f, size_t g, size_t h) { return diamond(f, test(f, g), h); }
+
+/* Implies: [G?]H. */
+static inline size_t implies(struct formula *f, size_t g, size_t h) { return box(f, test(f, g), h); }
 
 #endif
