@@ -1,0 +1,242 @@
+/* Source 004, section 3: its two worked translations, "p until q" and "p at all even instants".
+ *
+ * The paper names the formula gamma, one pass and then gamma alpha, a step and then gamma beta, and gives equations (2) to (6) and (7) to
+ * (12) between their labels. They stand below as rules, unfolded as the paper unfolds (2), and the rule that asserts gamma at last. By its
+ * lemma 1 the labels that keep the equations have their formulas' values; by its theorem 3 a trace satisfies gamma exactly if labels keep
+ * the last rule too. Both are seen here: with the paper's rules over all small traces and all fillings, and with our translation, in which
+ * each record has its label, and which leaves out (3) and (8), since they follow. */
+#include "worked.h"
+
+enum { MOST_SHOWN = 5, LABELS = 3, MOST_COLUMNS = 9, PAPER_RULES = 12 };
+
+/* The symbols of the paper's rules, a column each after the constants; and the places and marks of rules. */
+enum { NO, YES, GAMMA, ALPHA, BETA, P, Q, SYMBOLS };
+enum { EVERY, FIRST, LATER, LAST, PREVIOUS = 16384 };
+
+typedef uint16_t rule[PASTUREQUILL_RULE_SIZE];
+
+/* Each symbol's values at each instant. */
+struct rows {
+    uint8_t of[SYMBOLS][PASTUREQUILL_MOST_INSTANTS];
+};
+
+/* ---- the formulas */
+/* <(p? ; step)*>q */
+static size_t until(struct formula *f)
+{
+    size_t way = star(f, go(f, 0));
+    return diamond(f, way, atom(f, 1));
+}
+
+static size_t until_alpha(struct formula *f)
+{
+    size_t pass = go(f, 0);
+    return diamond(f, pass, until(f));
+}
+
+static size_t until_beta(struct formula *f)
+{
+    size_t on = step(f);
+    return diamond(f, on, until(f));
+}
+
+static size_t two_steps(struct formula *f)
+{
+    size_t on = step(f);
+    return sequence(f, on, step(f));
+}
+
+/* [(step ; step)*]p */
+static size_t even(struct formula *f)
+{
+    size_t way = star(f, two_steps(f));
+    return box(f, way, atom(f, 0));
+}
+
+static size_t even_alpha(struct formula *f)
+{
+    size_t pass = two_steps(f);
+    return box(f, pass, even(f));
+}
+
+static size_t even_beta(struct formula *f)
+{
+    size_t on = step(f);
+    return box(f, on, even(f));
+}
+
+/* ---- the examples */
+static const struct example {
+    const char *heading, *atoms;
+    size_t (*label[LABELS])(struct formula *f);
+    const char *written[LABELS];
+    rule paper[PAPER_RULES];
+    size_t ours;                   /* how many rules our translation has, by document 01 */
+    uint8_t columns[MOST_COLUMNS]; /* our columns, the atoms and then a label for each record: whose values they have */
+    size_t most_searched;          /* all fillings are tried up to so many instants */
+    struct claim shown[MOST_SHOWN];
+} examples[] = {
+    {"p until q: q holds at some instant, and p at each one before it", "pq",
+     {until, until_alpha, until_beta},
+     {"<(p? ; step)*>q", "<p? ; step>gamma", "<step>gamma"},
+     {
+         {EVERY, GAMMA, YES, Q, ALPHA, NO},                  /* (2): gamma is q or alpha */
+         {EVERY, Q, YES, GAMMA, NO, NO},
+         {EVERY, ALPHA, YES, GAMMA, NO, NO},
+         {LAST, GAMMA, YES, Q, NO, NO},                      /* (3): at last, q */
+         {LAST, Q, YES, GAMMA, NO, NO},
+         {EVERY, ALPHA, YES, P, NO, NO},                     /* (4): alpha is p and beta */
+         {EVERY, ALPHA, YES, BETA, NO, NO},
+         {EVERY, P, BETA, ALPHA, NO, NO},
+         {LATER, PREVIOUS + BETA, YES, GAMMA, NO, NO},       /* (5): beta is gamma next */
+         {LATER, GAMMA, YES, PREVIOUS + BETA, NO, NO},
+         {LAST, BETA, YES, NO, NO, NO},                      /* (6): at last, false */
+         {FIRST, YES, YES, GAMMA, NO, NO},
+     },
+     18, {P, Q, P, ALPHA, BETA, ALPHA, GAMMA, Q, GAMMA}, 2,
+     {
+         {"q comes, and p holds until then", {"220", "002"}, "222"},
+         {"p is only assumed on the way: the total trace satisfies it, this one does not", {"210", "002"}, "112"},
+         {"p breaks off before q comes", {"200", "002"}, "002"},
+         {"q never comes", {"222", "000"}, "000"},
+         {"q comes at once, and nothing is asked of p", {"000", "200"}, "200"},
+     }},
+    {"p at all even instants", "p",
+     {even, even_alpha, even_beta},
+     {"[(step ; step)*]p", "[step ; step]gamma", "[step]gamma"},
+     {
+         {EVERY, GAMMA, YES, P, NO, NO},                     /* (7): gamma is p and alpha */
+         {EVERY, GAMMA, YES, ALPHA, NO, NO},
+         {EVERY, P, ALPHA, GAMMA, NO, NO},
+         {LAST, GAMMA, YES, P, NO, NO},                      /* (8): at last, p */
+         {LAST, P, YES, GAMMA, NO, NO},
+         {LATER, PREVIOUS + ALPHA, YES, BETA, NO, NO},       /* (9): alpha is beta next */
+         {LATER, BETA, YES, PREVIOUS + ALPHA, NO, NO},
+         {LAST, YES, YES, ALPHA, NO, NO},                    /* (10): at last, true */
+         {LATER, PREVIOUS + BETA, YES, GAMMA, NO, NO},       /* (11): beta is gamma next */
+         {LATER, GAMMA, YES, PREVIOUS + BETA, NO, NO},
+         {LAST, YES, YES, BETA, NO, NO},                     /* (12): at last, true */
+         {FIRST, YES, YES, GAMMA, NO, NO},
+     },
+     16, {P, ALPHA, BETA, ALPHA, GAMMA, P, GAMMA}, 3,
+     {
+         {"p at the even instants alone", {"20202"}, "20202"},
+         {"p not at the third instant, which is even", {"20022"}, "00022"},
+         {"p not at the second instant, which is odd", {"20222"}, "20222"},
+         {"p only assumed at the third", {"22122"}, "12122"},
+     }},
+};
+
+static const uint8_t paper_columns[] = {GAMMA, ALPHA, BETA, P, Q};
+
+/* ---- values and verdicts */
+static struct rows rows_over(const struct example *e, const struct trace *t)
+{
+    struct rows rows = {0};
+    for (size_t i = 0; i < LABELS; i++) {
+        struct formula f = {.n = 0};
+        e->label[i](&f);
+        value_row(&f, t, rows.of[GAMMA + i]);
+    }
+    for (size_t i = 0; i < t->atoms; i++)
+        for (size_t k = 0; k < t->instants; k++)
+            rows.of[P + i][k] = t->cells[k * t->atoms + i];
+    return rows;
+}
+
+/* What the judge says of rules over the rows, laid out as these columns. */
+static pasturequill_judged judged(const uint16_t *rules, size_t count, const struct rows *rows, const uint8_t *columns, size_t width,
+                                  size_t instants)
+{
+    uint8_t cells[MOST_COLUMNS * PASTUREQUILL_MOST_INSTANTS];
+    for (size_t k = 0; k < instants; k++)
+        for (size_t c = 0; c < width; c++)
+            cells[k * width + c] = rows->of[columns[c]][k];
+    pasturequill_judged j = pasturequill_judge(rules, PASTUREQUILL_RULE_SIZE * count, width, instants, cells, width * instants);
+    if (j.refusal != PASTUREQUILL_ACCEPTED) {
+        fprintf(stderr, "judging refused: %d\n", j.refusal);
+        exit(2);
+    }
+    return j;
+}
+
+/* Theorem 3: yes where gamma is worth 2 at the first instant. Elsewhere the last rule fails there, and no other does. */
+static void print_verdict(const char *whose, size_t count, pasturequill_judged j, uint8_t gamma)
+{
+    printf("    %s %zu rules: ", whose, count);
+    if (j.holds)
+        printf("yes   %s\n", word(gamma == 2));
+    else
+        printf("no, rule %d at instant %d   %s\n", (int)j.rule, (int)j.instant, word(gamma < 2 && j.rule == count - 1 && j.instant == 0));
+}
+
+static void show_trace(const struct example *e, const struct formula *f, const struct rules *ours, const struct claim *c)
+{
+    static const char *const names[] = {"gamma", "alpha", "beta"};
+    struct trace t = trace_of(strlen(e->atoms), c->atoms);
+    struct rows rows = rows_over(e, &t);
+    uint8_t gamma = show_claim(c, e->atoms, names[0], f);
+    for (size_t i = 1; i < LABELS; i++) {
+        print_row(names[i], rows.of[GAMMA + i], t.instants);
+        printf("\n");
+    }
+    print_verdict("the paper's", PAPER_RULES, judged(e->paper[0], PAPER_RULES, &rows, paper_columns, LABELS + t.atoms, t.instants), gamma);
+    print_verdict("our", ours->count, judged(ours->words, ours->count, &rows, e->columns, t.atoms + f->n, t.instants), gamma);
+}
+
+/* ---- lemma 1, over all traces and all fillings of the labels */
+struct search {
+    size_t traces, fillings, kept, right;
+};
+
+/* Tries all fillings over one trace with all rules but the last, and counts those that keep them and those of them that are the values. */
+static void try_fillings(const struct example *e, const struct trace *t, struct search *s)
+{
+    size_t n = LABELS * t->instants;
+    uint8_t filling[LABELS * PASTUREQUILL_MOST_INSTANTS] = {0};
+    struct rows values = rows_over(e, t), rows = values;
+    do {
+        for (size_t i = 0; i < LABELS; i++)
+            memcpy(rows.of[GAMMA + i], filling + i * t->instants, t->instants);
+        s->fillings++;
+        if (judged(e->paper[0], PAPER_RULES - 1, &rows, paper_columns, LABELS + t->atoms, t->instants).holds) {
+            s->kept++;
+            s->right += memcmp(&rows, &values, sizeof rows) == 0;
+        }
+    } while (next_cells(filling, n));
+}
+
+static void search(const struct example *e)
+{
+    struct search s = {0};
+    for (size_t instants = 1; instants <= e->most_searched; instants++) {
+        struct trace t = {.atoms = strlen(e->atoms), .instants = instants};
+        do {
+            s.traces++;
+            try_fillings(e, &t, &s);
+        } while (next_trace(&t));
+    }
+    printf("\n  all %zu traces of up to %zu instants, all %zu fillings of the three labels, the paper's rules but the last:\n", s.traces,
+           e->most_searched, s.fillings);
+    printf("    %zu fillings keep them, %zu of these are the values   %s\n", s.kept, s.right,
+           word(s.kept == s.traces && s.right == s.traces));
+}
+
+static void show_example(const struct example *e)
+{
+    struct formula f = {.n = 0};
+    e->label[0](&f);
+    printf("%s\n  alpha %s\n  beta  %s\n  gamma %s\n", e->heading, e->written[1], e->written[2], e->written[0]);
+    struct rules ours = show_rules(&f, strlen(e->atoms), e->ours);
+    for (size_t i = 0; i < MOST_SHOWN && e->shown[i].says; i++)
+        show_trace(e, &f, &ours, &e->shown[i]);
+    search(e);
+    printf("\n");
+}
+
+int main(void)
+{
+    for (size_t i = 0; i < sizeof examples / sizeof *examples; i++)
+        show_example(&examples[i]);
+    return status();
+}
