@@ -1,21 +1,23 @@
 /* pasturequill_check over a table of cases, and over every pair of two faults in one input. Each input is handed over twice, ending and
  * starting at a page that may not be touched, in memory that may only be read. */
+#define TEST_NAME "check"
+
+#include "counts.h"
 #include "faults.h"
 #include "guarded.h"
-
-static int passed, failed;
 
 static void expect(const char *reason, const uint8_t *records, size_t size, uint64_t atoms, int refusal)
 {
     for (int edge = GUARDED_AT_END; edge <= GUARDED_AT_START; edge++) {
         int got = pasturequill_check(guarded(records, size, edge), size, atoms);
-        if (got == refusal) {
-            passed++;
-        } else {
-            failed++;
-            printf("check: %s: expected %d, got %d\n", reason, refusal, got);
-        }
+        count(got == refusal, reason, "refusal", (uint64_t)got, (uint64_t)refusal);
     }
+}
+
+static void expect_rows(const struct row *rows, size_t size)
+{
+    for (size_t i = 0; i < size; i++)
+        expect(rows[i].reason, rows[i].records, rows[i].size, rows[i].atoms, rows[i].refusal);
 }
 
 /* ---- the table */
@@ -80,16 +82,13 @@ int main(void)
 
     expect("no bytes", bytes, 0, 0, 1);
     expect("no bytes and 33 atoms", bytes, 0, 33, 1);
-    for (size_t i = 0; i < sizeof taken / sizeof *taken; i++)
-        expect(taken[i].reason, taken[i].records, taken[i].size, taken[i].atoms, taken[i].refusal);
-    for (size_t i = 0; i < sizeof faulty / sizeof *faulty; i++)
-        expect(faulty[i].reason, faulty[i].records, faulty[i].size, faulty[i].atoms, faulty[i].refusal);
+    expect_rows(taken, sizeof taken / sizeof *taken);
+    expect_rows(faulty, sizeof faulty / sizeof *faulty);
+    expect_rows(shorthands, sizeof shorthands / sizeof *shorthands);
     pairs();
     expect("255 records", bytes, chain(bytes, 255), 0, 0);
     expect("256 records", bytes, chain(bytes, 256), 0, 1);
     expect("1,000 records", bytes, chain(bytes, 1000), 0, 1);
     expect("255 records and a byte", bytes, chain(bytes, 255) + 1, 0, 1);
-
-    printf("check in C: %d passed, %d failed\n", passed, failed);
-    return failed != 0;
+    return counts_told();
 }

@@ -1,4 +1,4 @@
-/* What every service over records refuses: a table of cases, and single records with one fault. */
+/* What the services over records refuse: tables of cases, and single records with one fault. */
 #ifndef FAULTS_H
 #define FAULTS_H
 
@@ -17,6 +17,7 @@ struct row {
 #define CASE(refusal, atoms, reason, ...) \
     { reason, refusal, atoms, sizeof((const uint8_t[]){__VA_ARGS__}), (const uint8_t[]){__VA_ARGS__} }
 
+/* What every one of them refuses. */
 static const struct row faulty[] = {
     /* 1: the length */
     CASE(1, 0, "a part of a record", PASTUREQUILL_TRUE),
@@ -32,8 +33,6 @@ static const struct row faulty[] = {
     /* 2: the kind */
     CASE(2, 0, "the first kind past the core", R(11, 0, 0)),
     CASE(2, 0, "the last kind before the shorthands", R(31, 0, 0)),
-    CASE(2, 2, "a shorthand, which only the expander takes", ATOM(0), R(32, 0, 0)),
-    CASE(2, 2, "the last shorthand", ATOM(0), ATOM(1), R(47, 0, 1)),
     CASE(2, 0, "a kind past the shorthands", R(48, 0, 0)),
     CASE(2, 0, "the largest kind", R(255, 0, 0)),
     CASE(2, 0, "an unknown kind, whatever its other bytes hold", Z(11, 1, 65535, 65535)),
@@ -83,6 +82,12 @@ static const struct row faulty[] = {
     CASE(7, 0, "the same record in a sequence twice", STEP, SEQUENCE(0, 0), TRUE_, DIAMOND(1, 2)),
     CASE(7, 0, "one record under two parents", STEP, TRUE_, DIAMOND(0, 1), TEST(2), DIAMOND(3, 1)),
     CASE(7, 0, "one named three times", STEP, SEQUENCE(0, 0), SEQUENCE(1, 0), TRUE_, DIAMOND(2, 3)),
+};
+
+/* What all but the expander refuse. */
+static const struct row shorthands[] = {
+    CASE(2, 2, "a shorthand, which only the expander takes", ATOM(0), R(32, 0, 0)),
+    CASE(2, 2, "the last shorthand", ATOM(0), ATOM(1), R(47, 0, 1)),
 };
 
 /* A record with one fault, at place `r`, where record 0 is true and there are two atoms. */

@@ -1,21 +1,11 @@
 /* pasturequill_judge over tables of cases, over every rule of a few literals, and over every set of faults in one input. Each input of the
  * tables is handed over at both edges of memory that may not be touched, and in memory that may only be read. */
+#define TEST_NAME "judge"
+
+#include "counts.h"
 #include "guarded.h"
 #include "pasturequill.h"
-
-struct words {
-    const uint16_t *at;
-    size_t size; /* in words */
-};
-
-struct bytes {
-    const uint8_t *at;
-    size_t size;
-};
-
-#define WORDS(...) {(const uint16_t[]){__VA_ARGS__}, sizeof((const uint16_t[]){__VA_ARGS__}) / sizeof(uint16_t)}
-#define BYTES(...) {(const uint8_t[]){__VA_ARGS__}, sizeof((const uint8_t[]){__VA_ARGS__})}
-#define NONE {NULL, 0}
+#include "slices.h"
 
 enum { RULE_SIZE = 6, MOST_RULES = 1021, MOST_WIDTH = 287, MOST_INSTANTS = 32 };
 
@@ -28,19 +18,7 @@ enum { NO, YES, P, Q, R, PREVIOUS = 16384, NOT = 32768 };
 /* A rule with one word in its body and one in its head, the others unused. */
 #define ARROW(place, body, head) place, body, YES, head, NO, NO
 
-static int passed, failed;
-
 /* ---- the call */
-static void count(int fine, const char *reason, const char *what, uint64_t got, uint64_t expected)
-{
-    if (fine) {
-        passed++;
-    } else {
-        failed++;
-        printf("judge: %s: %s %llu, expected %llu\n", reason, what, (unsigned long long)got, (unsigned long long)expected);
-    }
-}
-
 static void compare(const char *reason, pasturequill_judged got, pasturequill_judged expected)
 {
     count(got.refusal == expected.refusal, reason, "refusal", got.refusal, expected.refusal);
@@ -473,6 +451,5 @@ int main(void)
     greatest_sizes();
     no_addresses();
 
-    printf("judge in C: %d passed, %d failed\n", passed, failed);
-    return failed != 0;
+    return counts_told();
 }

@@ -1,21 +1,12 @@
 /* pasturequill_translate over tables of cases, over every set of faults in one input, and over the longest formulas. Each input of the
  * tables is handed over at both edges of memory that may not be touched, the records in memory that may only be read, and the rules with
  * and without room to spare. */
+#define TEST_NAME "translate"
+
+#include "built.h"
+#include "counts.h"
 #include "faults.h"
 #include "guarded.h"
-
-struct words {
-    const uint16_t *at;
-    size_t size; /* in words */
-};
-
-struct bytes {
-    const uint8_t *at;
-    size_t size;
-};
-
-#define WORDS(...) {(const uint16_t[]){__VA_ARGS__}, sizeof((const uint16_t[]){__VA_ARGS__}) / sizeof(uint16_t)}
-#define BYTES(...) {(const uint8_t[]){__VA_ARGS__}, sizeof((const uint8_t[]){__VA_ARGS__})}
 
 enum { RULE_SIZE = 6, MOST_RECORDS = 255, MOST_WORDS = 6126 };
 
@@ -36,18 +27,6 @@ enum { NO, YES, P, Q, PREVIOUS = 16384, NOT = 32768 };
 #define IMPLICATION(x, u, v) \
     EVERY, x, u, v, NO, NO, ARROW(EVERY, NOT + (u), x), ARROW(EVERY, v, x), EVERY, YES, YES, x, u, NOT + (v)
 #define WHOLE(x) ARROW(FIRST, YES, x)
-
-static int passed, failed;
-
-static void count(int fine, const char *reason, const char *what, uint64_t got, uint64_t expected)
-{
-    if (fine) {
-        passed++;
-    } else {
-        failed++;
-        printf("translate: %s: %s %llu, expected %llu\n", reason, what, (unsigned long long)got, (unsigned long long)expected);
-    }
-}
 
 /* What stands in a word before the call: no translation has a literal with both marks, and it is not the same everywhere. */
 static uint16_t before(size_t at)
@@ -109,6 +88,12 @@ static void expect_refusal(const char *reason, struct bytes records, uint64_t at
 {
     expect(reason, records, atoms, 0, refusal, 0, NULL);
     expect(reason, records, atoms, MOST_WORDS, refusal, 0, NULL);
+}
+
+static void expect_refusals(const struct row *rows, size_t size)
+{
+    for (size_t i = 0; i < size; i++)
+        expect_refusal(rows[i].reason, (struct bytes){rows[i].records, rows[i].size}, rows[i].atoms, rows[i].refusal);
 }
 
 /* ---- word for word */
@@ -378,25 +363,12 @@ static void sets(void)
 }
 
 /* ---- the longest formulas */
-static uint8_t built[6 * 1000];
-static size_t records_built;
 static uint16_t wanted[MOST_WORDS];
 static size_t words_wanted;
 
 static void start(void)
 {
     records_built = words_wanted = 0;
-}
-
-static int add(uint8_t kind, int a, int b)
-{
-    memcpy(built + 6 * records_built, (const uint8_t[]){R(kind, a, b)}, 6);
-    return (int)records_built++;
-}
-
-static struct bytes all_built(void)
-{
-    return (struct bytes){built, 6 * records_built};
 }
 
 static void want(const uint16_t *words, size_t size)
@@ -569,8 +541,8 @@ int main(void)
         else
             expect_refusal(v->reason, v->records, 2, v->refusal);
     }
-    for (size_t i = 0; i < sizeof faulty / sizeof *faulty; i++)
-        expect_refusal(faulty[i].reason, (struct bytes){faulty[i].records, faulty[i].size}, faulty[i].atoms, faulty[i].refusal);
+    expect_refusals(faulty, sizeof faulty / sizeof *faulty);
+    expect_refusals(shorthands, sizeof shorthands / sizeof *shorthands);
     sets();
     wide_choice();
     tests_in_a_choice();
@@ -579,7 +551,5 @@ int main(void)
     long_body();
     too_many();
     no_addresses();
-
-    printf("translate in C: %d passed, %d failed\n", passed, failed);
-    return failed != 0;
+    return counts_told();
 }

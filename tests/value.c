@@ -1,41 +1,11 @@
 /* pasturequill_value over tables of cases, and over every set of faults in one input. Each input is handed over at both edges of memory
  * that may not be touched, the records and cells in memory that may only be read, and the table with and without room to spare. */
+#define TEST_NAME "value"
+
+#include "counts.h"
 #include "guarded.h"
 #include "records.h"
-
-struct bytes {
-    const uint8_t *at;
-    size_t size;
-};
-
-#define BYTES(...) {(const uint8_t[]){__VA_ARGS__}, sizeof((const uint8_t[]){__VA_ARGS__})}
-#define NONE {NULL, 0}
-
-static int passed, failed;
-
-/* What stands in a table's byte before the call: never a value, and not the same everywhere. */
-static uint8_t before(size_t at)
-{
-    return 0xc0 | at % 61;
-}
-
-static uint8_t *fresh_table(size_t size, enum guarded_edge edge)
-{
-    static uint8_t pattern[10000];
-    for (size_t at = 0; at < size; at++)
-        pattern[at] = before(at);
-    return guarded_room(pattern, size, edge);
-}
-
-static void count(int fine, const char *reason, const char *what, long got, long expected)
-{
-    if (fine) {
-        passed++;
-    } else {
-        failed++;
-        printf("value: %s: %s %ld, expected %ld\n", reason, what, got, expected);
-    }
-}
+#include "slices.h"
 
 /* ---- accepted inputs */
 /* What record r has in the table at instant k where that needs no reading of paths; -1 if it does. */
@@ -63,7 +33,7 @@ static void expect_table(const char *reason, struct bytes records, uint64_t atom
 {
     size_t n = records.size / PASTUREQUILL_RECORD_SIZE, needed = n * instants;
     for (size_t at = 0; at < room; at++) {
-        int expected = before(at);
+        int expected = fresh_byte(at);
         if (at < needed) {
             expected = plain_value(records.at, at / instants, atoms, cells.at, at % instants);
             if (at >= needed - values.size)
@@ -87,7 +57,7 @@ static void expect_values(const char *reason, struct bytes records, uint64_t ato
     for (int edge = GUARDED_AT_END; edge <= GUARDED_AT_START; edge++)
         for (size_t i = 0; i < sizeof spare / sizeof *spare; i++) {
             size_t room = needed + spare[i];
-            uint8_t *table = fresh_table(room, edge);
+            uint8_t *table = guarded_fresh(room, edge);
             pasturequill_valued got = pasturequill_value(guarded(records.at, records.size, edge), records.size, atoms, instants,
                                                          guarded(cells.at, cells.size, edge), cells.size, table, room);
             count(got.refusal == 0, reason, "refusal", got.refusal, 0);
@@ -227,15 +197,15 @@ static void expect_refused(const char *reason, struct bytes records, uint64_t at
                            int refusal)
 {
     for (int edge = GUARDED_AT_END; edge <= GUARDED_AT_START; edge++) {
-        uint8_t *table = fresh_table(room, edge);
+        uint8_t *table = guarded_fresh(room, edge);
         pasturequill_valued got = pasturequill_value(guarded(records.at, records.size, edge), records.size, atoms, instants,
                                                      guarded(cells.at, cells.size, edge), cells.size, table, room);
         count(got.refusal == refusal, reason, "refusal", got.refusal, refusal);
         count(got.value == 0, reason, "value of a refusal", got.value, 0);
         size_t same = 0;
-        while (same < room && table[same] == before(same))
+        while (same < room && table[same] == fresh_byte(same))
             same++;
-        count(same == room, reason, "bytes of the table that are as before", (long)same, (long)room);
+        count(same == room, reason, "bytes of the table that are as before", same, room);
     }
 }
 
@@ -475,6 +445,5 @@ int main(void)
     greatest_sizes();
     no_addresses();
 
-    printf("value in C: %d passed, %d failed\n", passed, failed);
-    return failed != 0;
+    return counts_told();
 }
