@@ -6,11 +6,13 @@
 //!
 //! Every input is drawn from a fixed seed. Compared are the refusal, the value, every byte of the table, and the bytes around it.
 
+mod cells;
 mod formulas;
 mod inputs;
 
+use cells::random_cells;
 use formulas::*;
-use inputs::{hex, random_cells, Framed, Random};
+use inputs::{hex, Framed, Random};
 use std::process::exit;
 
 /// Room for instants.
@@ -243,7 +245,7 @@ fn expected(input: &Input) -> Expected {
 /// An input that is accepted, with a formula of so many records.
 fn accepted_input(random: &mut Random, size: usize) -> Input {
     let tame = random.percent(20);
-    let formula = random_formula(random, size, tame);
+    let formula = random_formula(random, size, tame, 0);
     let instants = match random.below(10) {
         0 => 1,
         1 | 2 => 32,
@@ -314,7 +316,7 @@ fn damage(random: &mut Random, input: &mut Input) {
 /// Records that no formula was drawn for.
 fn scattered_input(random: &mut Random) -> Input {
     let mut input = accepted_input(random, 1);
-    input.formula.records = scattered_records(random);
+    input.formula.records = scattered_records(random, false);
     input.room = input.formula.count() * input.instants as usize;
     input
 }

@@ -4,10 +4,12 @@
 //! the first that fails, and what is refused. Every input is drawn from a fixed seed. Compared are all four numbers of the answer, and that
 //! nothing in or around the rules and cells was written to.
 
+mod cells;
 mod inputs;
 mod rules;
 
-use inputs::{hex, random_cells, Framed, Random};
+use cells::random_cells;
+use inputs::{hex, Framed, Random};
 use rules::*;
 use std::collections::HashMap;
 use std::process::exit;

@@ -7,14 +7,17 @@
 //! For small formulas all fillings of the labels are searched: exactly one meets all rules but the last, its labels of formulas are the
 //! values, and with the last rule there is one exactly if the formula is worth 2. Every input is drawn from a fixed seed.
 
+mod cells;
 mod formulas;
 mod inputs;
 mod rules;
+mod seen;
 
+use cells::random_cells;
 use formulas::*;
-use inputs::{hex, random_cells, Framed, Random};
+use inputs::{hex, Framed, Random};
 use rules::*;
-use std::collections::HashMap;
+use seen::Seen;
 use std::process::exit;
 
 // ---- the translation (document 01, Translation)
@@ -130,14 +133,6 @@ impl Tree<'_> {
     }
 }
 
-fn children(formula: &Formula, r: usize) -> Vec<usize> {
-    match formula.kind(r) {
-        DIAMOND | BOX | CHOICE | SEQUENCE => vec![formula.a(r), formula.b(r)],
-        TEST | STAR => vec![formula.a(r)],
-        _ => vec![],
-    }
-}
-
 // ---- what is refused (document 01, Translation and Numbers given back)
 
 fn may_stand_still(formula: &Formula, path: usize) -> bool {
@@ -246,11 +241,12 @@ fn damage(random: &mut Random, input: &mut Input) {
 fn random_input(random: &mut Random) -> Input {
     if random.percent(4) {
         let atoms = random.below(4) as u64;
-        return Input { formula: Formula { records: scattered_records(random), atoms }, room: random.below(200) };
+        let formula = Formula { records: scattered_records(random, false), atoms, shorthands: false };
+        return Input { formula, room: random.below(200) };
     }
     let size = random_size(random);
     let tame = random.percent(60);
-    let formula = random_formula(random, size, tame);
+    let formula = random_formula(random, size, tame, 0);
     let mut input = input_of(random, formula);
     if random.percent(45) {
         for _ in 0..random.pick(&[1, 1, 1, 1, 2, 2, 3]) {
@@ -460,23 +456,6 @@ fn unmeant(formula: &Formula, instants: usize, cells: &[u8]) -> Result<u8, Strin
 
 // ---- the run
 
-/// How often each thing came up, so that a run which tries too little is seen, and fails.
-struct Seen(HashMap<String, usize>);
-
-impl Seen {
-    fn add(&mut self, name: String, there: bool) {
-        if there {
-            *self.0.entry(name).or_default() += 1;
-        }
-    }
-    fn times(&self, name: &str) -> usize {
-        self.0.get(name).copied().unwrap_or(0)
-    }
-    fn told(&self, names: &[String]) -> String {
-        names.iter().map(|name| format!("{name}: {}", self.times(name))).collect::<Vec<_>>().join("; ")
-    }
-}
-
 const KINDS: [&str; 11] = ["false", "true", "atom", "diamond", "box", "step", "back", "test", "choice", "sequence", "star"];
 
 fn under(kind: u8, modality: u8) -> String {
@@ -554,13 +533,13 @@ const SMALL: usize = 12_000;
 
 /// Random inputs, word for word.
 fn compare_words(random: &mut Random) -> bool {
-    let mut seen = Seen(HashMap::new());
+    let mut seen = Seen::default();
     let (mut passed, mut failed) = (0, 0);
     for i in 0..INPUTS {
         // First every size once, whole and undamaged; then whatever comes. There is no formula of two records.
         let input = match i {
             1 | 3..=255 => {
-                let formula = random_formula(random, i, true);
+                let formula = random_formula(random, i, true, 0);
                 input_of(random, formula)
             }
             _ => random_input(random),
@@ -584,10 +563,9 @@ fn compare_words(random: &mut Random) -> bool {
     let names = [refusal_names(), told, kind_names()];
     println!("compare the translator: {INPUTS} inputs");
     names.iter().for_each(|names| println!("compare the translator: {}", seen.told(names)));
-    let seldom = names.concat().into_iter().filter(|name| seen.times(name) < 100);
     let sizes = (1..=255).filter(|&n| n != 2).map(|n| format!("{n} records"));
-    let unseen = sizes.chain((0..=32).map(|n| format!("{n} atoms"))).filter(|name| seen.times(name) == 0);
-    let missing: Vec<String> = seldom.chain(unseen).collect();
+    let unseen = seen.below(1, sizes.chain((0..=32).map(|n| format!("{n} atoms"))));
+    let missing = [seen.below(100, names.concat()), unseen].concat();
     if !missing.is_empty() {
         println!("compare the translator: tried too seldom: {}", missing.join("; "));
     }
@@ -597,13 +575,13 @@ fn compare_words(random: &mut Random) -> bool {
 
 /// Small formulas, by what their rules say.
 fn compare_meaning(random: &mut Random) -> bool {
-    let mut seen = Seen(HashMap::new());
+    let mut seen = Seen::default();
     let (mut passed, mut failed) = (0, 0);
     for i in 0..SMALL {
         let size = random.pick(&[1, 3, 4, 4, 5, 5, 5, 6, 6, 7, 7, 8]);
         let atoms = random.pick(&[0, 1, 2, 2]);
         let instants = random.pick(&[1, 2, 2, 3, 3]);
-        let formula = formula_over(random, size, true, atoms);
+        let formula = formula_over(random, size, true, 0, atoms);
         let cells = random_cells(random, atoms, instants);
         count_kinds(&mut seen, &formula);
         seen.add(format!("{instants} instants"), true);
@@ -627,7 +605,7 @@ fn compare_meaning(random: &mut Random) -> bool {
     let names = [others, kind_names()];
     println!("compare the rules: {SMALL} formulas over a trace each");
     names.iter().for_each(|names| println!("compare the rules: {}", seen.told(names)));
-    let missing: Vec<String> = names.concat().into_iter().filter(|name| seen.times(name) < 100).collect();
+    let missing = seen.below(100, names.concat());
     if !missing.is_empty() {
         println!("compare the rules: tried too seldom: {}", missing.join("; "));
     }

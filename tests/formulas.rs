@@ -17,11 +17,30 @@ pub const CHOICE: u8 = 8;
 pub const SEQUENCE: u8 = 9;
 pub const STAR: u8 = 10;
 
-/// Records, of a formula or not, and how many atoms there are.
+// Shorthands, which only the expander takes.
+pub const NOT: u8 = 32;
+pub const AND: u8 = 33;
+pub const OR: u8 = 34;
+pub const IMPLIES: u8 = 35;
+pub const FINAL: u8 = 36;
+pub const INITIAL: u8 = 37;
+pub const NEXT: u8 = 38;
+pub const WEAK_NEXT: u8 = 39;
+pub const PREVIOUSLY: u8 = 40;
+pub const WEAK_PREVIOUSLY: u8 = 41;
+pub const EVENTUALLY: u8 = 42;
+pub const ALWAYS: u8 = 43;
+pub const ONCE: u8 = 44;
+pub const SO_FAR: u8 = 45;
+pub const UNTIL: u8 = 46;
+pub const SINCE: u8 = 47;
+
+/// Records, of a formula or not, how many atoms there are, and whether they are for a service that takes shorthands.
 #[derive(Clone)]
 pub struct Formula {
     pub records: Vec<u8>,
     pub atoms: u64,
+    pub shorthands: bool,
 }
 
 impl Formula {
@@ -36,6 +55,10 @@ impl Formula {
     }
     pub fn b(&self, r: usize) -> usize {
         u16::from_le_bytes([self.records[6 * r + 4], self.records[6 * r + 5]]) as usize
+    }
+    /// The line of record r in the table of kinds, if the service takes its kind.
+    fn line(&self, r: usize) -> Option<Line> {
+        line(self.kind(r), self.shorthands)
     }
 }
 
@@ -55,8 +78,11 @@ enum Field {
     Child(Sort),
 }
 
-/// The table of kinds: the sort, and what fields a and b hold. Kinds past the core have no line.
-fn line(kind: u8) -> Option<(Sort, Field, Field)> {
+/// What the table of kinds says of one: the sort, and what fields a and b hold.
+type Line = (Sort, Field, Field);
+
+/// The table of kinds, with the shorthands or without them. Other kinds have no line.
+fn line(kind: u8, shorthands: bool) -> Option<Line> {
     use Field::*;
     use Sort::*;
     Some(match kind {
@@ -67,18 +93,21 @@ fn line(kind: u8) -> Option<(Sort, Field, Field)> {
         TEST => (Path, Child(Formula), Nothing),
         CHOICE | SEQUENCE => (Path, Child(Path), Child(Path)),
         STAR => (Path, Child(Path), Nothing),
+        NOT | NEXT..=SO_FAR if shorthands => (Formula, Child(Formula), Nothing),
+        AND | OR | IMPLIES | UNTIL | SINCE if shorthands => (Formula, Child(Formula), Child(Formula)),
+        FINAL | INITIAL if shorthands => (Formula, Nothing, Nothing),
         _ => return None,
     })
 }
 
 /// The sort of a record that was looked at already.
 pub fn sort(formula: &Formula, r: usize) -> Sort {
-    line(formula.kind(r)).expect("a record before this one has a known kind").0
+    formula.line(r).expect("a record before this one has a known kind").0
 }
 
 /// The first of 2, 3, 4, 5, 6 that record r has, the records before it having none of them.
-fn record_refusal(formula: &Formula, r: usize) -> u8 {
-    let Some((_, in_a, in_b)) = line(formula.kind(r)) else {
+pub fn record_refusal(formula: &Formula, r: usize) -> u8 {
+    let Some((_, in_a, in_b)) = formula.line(r) else {
         return 2;
     };
     let fields = [(in_a, formula.a(r)), (in_b, formula.b(r))];
@@ -97,15 +126,11 @@ fn record_refusal(formula: &Formula, r: usize) -> u8 {
     0
 }
 
-/// In how many places record r is a child.
-fn places(formula: &Formula, r: usize) -> usize {
-    let named = |field: Field, v: usize| (matches!(field, Field::Child(_)) && v == r) as usize;
-    (0..formula.count())
-        .map(|q| {
-            let (_, in_a, in_b) = line(formula.kind(q)).expect("all kinds are known by now");
-            named(in_a, formula.a(q)) + named(in_b, formula.b(q))
-        })
-        .sum()
+/// The children of a record whose kind is known, that in field a first.
+pub fn children(formula: &Formula, r: usize) -> Vec<usize> {
+    let (_, in_a, in_b) = formula.line(r).expect("all kinds are known by now");
+    let fields = [(in_a, formula.a(r)), (in_b, formula.b(r))];
+    fields.iter().filter(|(field, _)| matches!(field, Field::Child(_))).map(|&(_, v)| v).collect()
 }
 
 /// Whether the record bytes are empty, no multiple of 6, or too many: 1.
@@ -123,7 +148,8 @@ pub fn records_refusal(formula: &Formula) -> u8 {
     if sort(formula, n - 1) == Sort::Path {
         return 6;
     }
-    if (0..n - 1).any(|r| places(formula, r) != 1) {
+    let named: Vec<usize> = (0..n).flat_map(|r| children(formula, r)).collect();
+    if (0..n - 1).any(|r| named.iter().filter(|&&child| child == r).count() != 1) {
         return 7;
     }
     0
@@ -184,11 +210,12 @@ struct Node {
     children: Vec<usize>,
 }
 
-/// Where tame is asked for, all stars are such that translation takes them.
+/// Where tame is asked for, all stars are such that translation takes them. Of a hundred formulas so many are shorthands.
 struct Grower<'a> {
     random: &'a mut Random,
     habit: Habit,
     tame: bool,
+    shorthands: usize,
     atoms: usize,
     nodes: Vec<Node>,
 }
@@ -210,8 +237,11 @@ impl Grower<'_> {
         (first, whole - first)
     }
 
-    /// A formula of so many records; there is none of two.
+    /// A formula of so many records; without shorthands there is none of two.
     fn formula(&mut self, size: usize) -> usize {
+        if self.shorthands > 0 && (size == 2 || self.random.percent(self.shorthands)) {
+            return self.shorthand(size);
+        }
         if size == 1 {
             if self.atoms > 0 && self.random.percent(85) {
                 let atom = self.random.below(self.atoms) as u8;
@@ -221,13 +251,30 @@ impl Grower<'_> {
             return self.add(kind, 0, vec![]);
         }
         let (mut first, mut second) = self.parts(size - 1);
-        if second == 2 {
+        if second == 2 && self.shorthands == 0 {
             (first, second) = (first + 1, 1);
         }
         let kind = if self.random.percent(self.habit.boxes) { BOX } else { DIAMOND };
         let path = self.path(first, Way { only: None, moves: false });
         let end = self.formula(second);
         self.add(kind, 0, vec![path, end])
+    }
+
+    /// A formula of so many records, the last of them a shorthand.
+    fn shorthand(&mut self, size: usize) -> usize {
+        if size == 1 {
+            let kind = self.random.pick(&[FINAL, INITIAL]);
+            return self.add(kind, 0, vec![]);
+        }
+        if size == 2 || self.random.percent(50) {
+            let kind = self.random.pick(&[NOT, NEXT, WEAK_NEXT, PREVIOUSLY, WEAK_PREVIOUSLY, EVENTUALLY, ALWAYS, ONCE, SO_FAR]);
+            let argument = self.formula(size - 1);
+            return self.add(kind, 0, vec![argument]);
+        }
+        let kind = self.random.pick(&[AND, OR, IMPLIES, UNTIL, SINCE]);
+        let (first, second) = self.parts(size - 1);
+        let (f, g) = (self.formula(first), self.formula(second));
+        self.add(kind, 0, vec![f, g])
     }
 
     /// A path of so many records. One that must move is not of two: such a path is a test or a star.
@@ -237,7 +284,7 @@ impl Grower<'_> {
             return self.add(kind, 0, vec![]);
         }
         let h = self.habit;
-        let test = if size == 3 || way.moves { 0 } else { h.test };
+        let test = if (size == 3 && self.shorthands == 0) || way.moves { 0 } else { h.test };
         let star = if (self.tame && size == 3) || way.moves { 0 } else { h.star };
         let choice = if size == 2 || (way.moves && size == 4) { 0 } else { h.choice };
         let sequence = if size == 2 { 0 } else { h.sequence };
@@ -289,7 +336,7 @@ impl Grower<'_> {
     }
 }
 
-fn record(kind: u8, a: usize, b: usize) -> [u8; 6] {
+pub fn record(kind: u8, a: usize, b: usize) -> [u8; 6] {
     let (a, b) = ((a as u16).to_le_bytes(), (b as u16).to_le_bytes());
     [kind, 0, a[0], a[1], b[0], b[1]]
 }
@@ -320,23 +367,23 @@ fn laid_out(random: &mut Random, nodes: &[Node], root: usize) -> Vec<u8> {
 }
 
 /// A formula of so many records, over any number of atoms.
-pub fn random_formula(random: &mut Random, size: usize, tame: bool) -> Formula {
+pub fn random_formula(random: &mut Random, size: usize, tame: bool, shorthands: usize) -> Formula {
     let atoms = match random.below(10) {
         0 => 0,
         1 => 32,
         2 | 3 => random.between(1, 32),
         _ => random.between(1, 4),
     };
-    formula_over(random, size, tame, atoms)
+    formula_over(random, size, tame, shorthands, atoms)
 }
 
 /// A formula of so many records, over so many atoms.
-pub fn formula_over(random: &mut Random, size: usize, tame: bool, atoms: usize) -> Formula {
+pub fn formula_over(random: &mut Random, size: usize, tame: bool, shorthands: usize, atoms: usize) -> Formula {
     let habit = random.pick(&HABITS);
-    let mut grower = Grower { random: &mut *random, habit, tame, atoms, nodes: vec![] };
+    let mut grower = Grower { random: &mut *random, habit, tame, shorthands, atoms, nodes: vec![] };
     let root = grower.formula(size);
     let nodes = grower.nodes;
-    Formula { records: laid_out(random, &nodes, root), atoms: atoms as u64 }
+    Formula { records: laid_out(random, &nodes, root), atoms: atoms as u64, shorthands: shorthands > 0 }
 }
 
 /// A number of records that a formula can have: every one but two.
@@ -358,9 +405,9 @@ pub fn far(random: &mut Random, low: u64) -> u64 {
     random.pick(&[33, 34, 64, 255, 256, 1 << 16, (1 << 32) + low, 1 << 32, 1 << 63, (1 << 63) + low, u64::MAX])
 }
 
-/// Some record, if any, whose kind is such that `wanted` says yes.
-fn some_record(random: &mut Random, formula: &Formula, wanted: impl Fn(u8) -> bool) -> Option<usize> {
-    let found: Vec<usize> = (0..formula.count()).filter(|&r| wanted(formula.kind(r))).collect();
+/// Some record, if any, of which `wanted` says yes.
+fn some_record(random: &mut Random, formula: &Formula, wanted: impl Fn(usize) -> bool) -> Option<usize> {
+    let found: Vec<usize> = (0..formula.count()).filter(|&r| wanted(r)).collect();
     if found.is_empty() { None } else { Some(random.pick(&found)) }
 }
 
@@ -369,17 +416,21 @@ fn set_field(formula: &mut Formula, r: usize, second: bool, v: usize) {
     formula.records[at..at + 2].copy_from_slice(&(v as u16).to_le_bytes());
 }
 
-fn has_children(kind: u8) -> bool {
-    matches!(line(kind), Some((_, Field::Child(_), _)))
+fn has_children(formula: &Formula, r: usize) -> bool {
+    matches!(formula.line(r), Some((_, Field::Child(_), _)))
+}
+
+fn is_path(formula: &Formula, r: usize) -> bool {
+    matches!(formula.line(r), Some((Sort::Path, ..)))
 }
 
 /// Names another earlier record where record r names a child, of the same sort or of the other.
 fn redirect(random: &mut Random, formula: &mut Formula, same: bool) {
-    let Some(r) = some_record(random, formula, has_children) else { return };
-    let (_, in_a, in_b) = line(formula.kind(r)).expect("it has children");
+    let Some(r) = some_record(random, formula, |r| has_children(formula, r)) else { return };
+    let (_, in_a, in_b) = formula.line(r).expect("it has children");
     let second = matches!(in_b, Field::Child(_)) && random.percent(50);
     let Field::Child(wanted) = (if second { in_b } else { in_a }) else { return };
-    let others: Vec<usize> = (0..r).filter(|&q| line(formula.kind(q)).is_some_and(|(sort, ..)| (sort == wanted) == same)).collect();
+    let others: Vec<usize> = (0..r).filter(|&q| formula.line(q).is_some_and(|(sort, ..)| (sort == wanted) == same)).collect();
     if !others.is_empty() {
         set_field(formula, r, second, random.pick(&others));
     }
@@ -387,8 +438,8 @@ fn redirect(random: &mut Random, formula: &mut Formula, same: bool) {
 
 /// Gives a record one child more, which has its place already: a star becomes a path of two parts, a step becomes a star.
 fn name_again(random: &mut Random, formula: &mut Formula) {
-    let Some(r) = some_record(random, formula, |kind| matches!(kind, STAR | STEP | BACK)) else { return };
-    let paths: Vec<usize> = (0..r).filter(|&q| line(formula.kind(q)).is_some_and(|(sort, ..)| sort == Sort::Path)).collect();
+    let Some(r) = some_record(random, formula, |r| matches!(formula.kind(r), STAR | STEP | BACK)) else { return };
+    let paths: Vec<usize> = (0..r).filter(|&q| is_path(formula, q)).collect();
     if paths.is_empty() {
         return;
     }
@@ -436,14 +487,14 @@ pub fn damage_records(random: &mut Random, formula: &mut Formula) {
             formula.records[6 * r + at] = random.between(1, 255) as u8;
         }
         9 => {
-            if let Some(r) = some_record(random, formula, has_children) {
+            if let Some(r) = some_record(random, formula, |r| has_children(formula, r)) {
                 let second = random.percent(50);
                 let old = if second { formula.b(r) } else { formula.a(r) };
                 set_field(formula, r, second, random.pick(&[r, r + 1, n, 255, 256, 256 + old, 65535]));
             }
         }
         10 => {
-            if let Some(r) = some_record(random, formula, |kind| kind == ATOM) {
+            if let Some(r) = some_record(random, formula, |r| formula.kind(r) == ATOM) {
                 let old = formula.a(r);
                 set_field(formula, r, false, random.pick(&[formula.atoms as usize, formula.atoms as usize + 1, 32, 255, 256 + old, 65535]));
             }
@@ -454,8 +505,7 @@ pub fn damage_records(random: &mut Random, formula: &mut Formula) {
         13 | 14 => name_again(random, formula),
         // The records up to some path.
         15 => {
-            let path = some_record(random, formula, |kind| line(kind).is_some_and(|(sort, ..)| sort == Sort::Path));
-            if let Some(r) = path {
+            if let Some(r) = some_record(random, formula, |r| is_path(formula, r)) {
                 formula.records.truncate(6 * (r + 1));
             }
         }
@@ -463,12 +513,13 @@ pub fn damage_records(random: &mut Random, formula: &mut Formula) {
     }
 }
 
-/// Records that no formula was drawn for: small kinds and small fields, in bytes.
-pub fn scattered_records(random: &mut Random) -> Vec<u8> {
+/// Records that no formula was drawn for: core kinds and one past them, shorthands too if they are asked for, and small fields; in bytes.
+pub fn scattered_records(random: &mut Random, shorthands: bool) -> Vec<u8> {
+    let kinds: Vec<u8> = if shorthands { (FALSE..=STAR + 1).chain(NOT..=SINCE).collect() } else { (FALSE..=STAR + 1).collect() };
     let mut records = vec![];
     for r in 0..random.between(1, 8) {
-        let kind = random.below(12) as u8;
-        let (_, in_a, in_b) = line(kind).unwrap_or((Sort::Formula, Field::Nothing, Field::Nothing));
+        let kind = random.pick(&kinds);
+        let (_, in_a, in_b) = line(kind, shorthands).unwrap_or((Sort::Formula, Field::Nothing, Field::Nothing));
         let mut drawn = |field| match field {
             Field::Nothing => random.percent(3) as usize,
             Field::AtomNumber => random.below(4),
