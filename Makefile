@@ -1,6 +1,6 @@
 .PHONY: demo test bench outside
 
-# A planner in C checks a rule and values it over five plans; the printing program prints the rules of a formula.
+# A planner in C expands and checks a rule, values it over five plans and translates it; the printing program prints the rules of a formula.
 demo:
 	bash tests/run
 	target/c/planner
