@@ -1,8 +1,11 @@
 .PHONY: demo test bench outside
 
-# A planner in C expands and checks a rule, values it over five plans and translates it; the printing program prints the rules of a formula.
+# A planner in C expands a rule, values it over six plans, translates it, fills the labels and judges; the printing program prints the rules
+# of a formula.
 demo:
-	bash tests/run
+	rt staticlib pasturequill
+	mkdir -p target/c
+	cc -Iinclude examples/planner.c target/staticlib/libpasturequill.a -o target/c/planner
 	target/c/planner
 	rt check print
 	target/bin/print < crates/print/stdin
