@@ -3,7 +3,7 @@
 use Prim.Native.Nat.{ℕ, zero, suc, _<_}
 use mathlib.Core.Path.{_≡_, refl, ap, _∙_}
 use mathlib.Core.Bool.{Bool}
-use mathlib.Core.Logic.{⊎-elim}
+use mathlib.Core.Logic.{_⊎_, inl, inr, ⊎-elim}
 use mathlib.Core.List.{List}
 use native.Mathlib.Nat.{eq-or-lt-of-le, le-of-suc-le-suc}
 use native.Mathlib.Omega.{arith}
@@ -101,7 +101,12 @@ module _ {full : Bool} {s : List ℕ} {A r : ℕ} (w : WellFormed full s A) (l :
   path-node e = ap asPath (rw e at (tree-of w r l))
 
 -- ---- the sort of a tree
--- No sort is both.
+-- It is one of two,
+pub either-sort : (σ : Sort) → (σ ≡ Sort.formula) ⊎ (σ ≡ Sort.path)
+either-sort Sort.formula = inl refl
+either-sort Sort.path = inr refl
+
+-- and not both.
 pub differs : {σ : Sort} → σ ≡ Sort.formula → σ ≡ Sort.path → ⊥
 differs e d = let z : _≡_ {A = ℕ} 0 1 = cc in omega arith
 

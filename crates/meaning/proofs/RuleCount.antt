@@ -1,13 +1,14 @@
--- How many rules there are. A record's kind and mode alone say how many it has, four at most; so those of all records
--- are the sum, and one more asserts the whole formula.
+-- How many rules there are, and words. A record's kind and mode alone say how many rules it has, four at most; so those
+-- of all records are the sum, and one more asserts the whole formula.
 use Prim.Native.Nat.{ℕ, zero, suc, _+_, _*_, _≤_}
 use mathlib.Core.Path.{_≡_, refl}
-use mathlib.Core.List.{List}
+use mathlib.Core.List.{List, [], _∷_}
 use native.Mathlib.Omega.{arith}
 use lib.ListN.{length, length-append}
 use Rattle.meaning.specs.Run.{each}
 use Rattle.meaning.specs.Record.{Kind, constant, atom, modal, move, test, choice, sequence, star, shorthand, unknown}
 use Rattle.meaning.specs.Record.{count, kindAt, Mode, diamond, box, ahead, back}
+use Rattle.meaning.specs.Rule.{Rule, ruleSize, words}
 use Rattle.meaning.specs.Translation.{joinRules, testRules, moveRules, rulesOf, rulesAt, translation}
 use Rattle.meaning.specs.Translation.{context, ruleNumber, ruleSum}
 
@@ -67,3 +68,10 @@ translation-counted s A = simp length-append (omega (arith, each-counted s A (co
 
 pub few-rules : (s : List ℕ) (A : ℕ) → length (translation s A) ≤ 4 * count s + 1
 few-rules s A = omega (arith, translation-counted s A, sum-few s (count s))
+
+-- ---- words
+-- Six to a rule.
+pub words-length : (ρs : List Rule) → length (words ρs) ≡ ruleSize * length ρs
+unfolding words
+words-length [] = refl
+words-length (ρ ∷ ρs) = omega (arith, words-length ρs)

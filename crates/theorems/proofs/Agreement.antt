@@ -24,13 +24,13 @@ use Rattle.meaning.specs.Service.{Judged, judged, told, judgeAnswer, valueAnswe
 use Rattle.meaning.proofs.Fails.{tests}
 use Rattle.meaning.proofs.First.{Clear, clear-none, clear-append, each-clear}
 use Rattle.meaning.proofs.Accepted.{clear-well-formed, starred-formed}
-use Rattle.meaning.proofs.RuleCount.{few-rules}
+use Rattle.meaning.proofs.RuleCount.{few-rules, words-length}
 use Rattle.meaning.proofs.Judging.{yes-means}
 use Rattle.theorems.specs.Filling.{Trace, Meets}
 use Rattle.theorems.specs.Demand3.{Accepted, OneFilling}
 use Rattle.theorems.specs.Why.{Agreement}
 use Rattle.theorems.proofs.Shaped.{shapes}
-use Rattle.theorems.proofs.Every.{words-length, every-word}
+use Rattle.theorems.proofs.Every.{every-word}
 use Rattle.theorems.proofs.Keeping.{all-hold, append-kept}
 use Rattle.theorems.proofs.InForm.{narrow, translation-formed}
 

@@ -11,15 +11,10 @@ use Rattle.meaning.specs.Run.{each}
 use Rattle.meaning.specs.Rule.{Rule, words, ruleAt}
 use Rattle.meaning.specs.Judge.{ruleCount}
 use Rattle.meaning.proofs.Bounds.{all-suc}
+use Rattle.meaning.proofs.RuleCount.{words-length}
 
 -- ---- the words of a list of rules
--- Six to a rule.
-pub words-length : (ρs : List Rule) → length (words ρs) ≡ 6 * length ρs
-unfolding words
-words-length [] = refl
-words-length (ρ ∷ ρs) = omega (arith, words-length ρs)
-
--- So there are as many rules as the list has.
+-- There are as many rules as the list has.
 words-count : (ρs : List Rule) → ruleCount (words ρs) ≡ length ρs
 words-count ρs = omega (arith, words-length ρs)
 

@@ -14,8 +14,8 @@ use Rattle.meaning.specs.Refusal.{ground10, starredGrounds, translateGrounds}
 use Rattle.meaning.specs.Service.{translateAnswer, translateAfter}
 use Rattle.meaning.proofs.First.{clear-none, clear-append, none-clear, numbered-append}
 use Rattle.meaning.proofs.Accepted.{starred-numbered}
+use Rattle.meaning.proofs.RuleCount.{words-length}
 use Rattle.theorems.specs.Demand3.{Accepted}
-use Rattle.theorems.proofs.Every.{words-length}
 
 module _ (s : List ℕ) (A : ℕ) (out : List ℕ) (e : translateAnswer s A out .refusal ≡ 0) where
   taken : Accepted s A

@@ -14,6 +14,7 @@ use Rattle.meaning.specs.Record.{count, kindAt}
 use Rattle.meaning.specs.Rule.{Rule, rule, ruleSize, words}
 use Rattle.meaning.specs.Translation.{label, context, rulesAt, asserted, translation, ruleNumber, ruleSum}
 use Rattle.meaning.proofs.Bounds.{below-suc}
+use Rattle.meaning.proofs.RuleCount.{words-length}
 use Rattle.records.specs.Code.{modeOf}
 use Rattle.translate.specs.Contexts.{Moded}
 use Rattle.translate.specs.Rows.{Rowed, Pasted}
@@ -24,11 +25,6 @@ words-append : (ρs σs : List Rule) → words (ρs ++ σs) ≡ words ρs ++ wor
 unfolding words
 words-append [] σs = refl
 words-append (ρ ∷ ρs) σs = rw (words-append ρs σs)
-
-words-length : (ρs : List Rule) → length (words ρs) ≡ ruleSize * length ρs
-unfolding words
-words-length [] = refl
-words-length (ρ ∷ ρs) = omega (arith, words-length ρs)
 
 -- ---- one record more
 module _ {T : Type 0} (f : ℕ → List T) where

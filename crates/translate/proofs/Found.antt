@@ -1,16 +1,17 @@
 -- The contexts of all paths. The parent of a path is a path of which it is a part, or a modality whose path it is, and
 -- parents are later: so every path is under a modality's path. Once all under each of these is right, every path is.
 use Prim.Native.Nat.{ℕ, zero, suc, _+_, _<_, _≤_}
-use mathlib.Core.Path.{_≡_, refl, sym, _∙_}
+use mathlib.Core.Path.{_≡_, sym, _∙_}
 use mathlib.Core.Bool.{true, false, true≢false}
 use mathlib.Core.List.{List}
 use mathlib.Core.Logic.{_⊎_, inl, inr}
 use native.Mathlib.Omega.{arith}
 use lib.ListN.{length}
 use borrow.Author.Tests.{lt-ltb, le-ltb}
-use Rattle.meaning.specs.Record.{count, kindByte, kindAt, fieldA, Sort, formula, path, sortOf}
+use Rattle.meaning.specs.Record.{count, kindByte, kindAt, fieldA, formula, path, sortOf}
 use Rattle.meaning.specs.Translation.{uses, parent}
 use Rattle.meaning.specs.WellFormed.{WellFormed}
+use Rattle.meaning.proofs.Nodes.{either-sort}
 use Rattle.meaning.proofs.Bounds.{le-or-lt, all-suc}
 use Rattle.meaning.proofs.Parents.{InFirst, InSecond, used-in, has-parent, child-earlier}
 use Rattle.meaning.proofs.Climbing.{path-before, continuation-record}
@@ -34,10 +35,6 @@ record Modality (s : List ℕ) (r q : ℕ) : Type 0 where
   index : q < count s
   modal : isModal (kindByte s q) ≡ true
   below : PathUnder s (fieldA s q) r
-
-either-sort : (σ : Sort) → (σ ≡ formula) ⊎ (σ ≡ path)
-either-sort formula = inl refl
-either-sort path = inr refl
 
 module _ {s : List ℕ} {A : ℕ} (w : WellFormed false s A) where
   -- The parent of a path.

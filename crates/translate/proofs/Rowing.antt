@@ -4,12 +4,12 @@ use Prim.Native.Nat.{ℕ, _<_, _≤_}
 use mathlib.Core.Path.{_≡_, refl, sym, ap, _∙_}
 use mathlib.Core.Bool.{Bool, true, false, cond}
 use mathlib.Core.List.{List, [], _∷_}
-use mathlib.Core.Logic.{_⊎_, inl, inr}
+use mathlib.Core.Logic.{inl, inr}
 use native.Mathlib.Omega.{arith}
 use lib.Dec.{eqb}
 use lib.ListN.{length, getD}
 use Rattle.meaning.specs.Record.{Kind, constant, atom, modal, move, test, choice, sequence, star, shorthand, unknown}
-use Rattle.meaning.specs.Record.{Mode, diamond, box, Sort, formula, path, sortOf, kinds, kindOf}
+use Rattle.meaning.specs.Record.{Mode, diamond, box, formula, sortOf, kinds, kindOf}
 use Rattle.meaning.specs.Record.{Use, unused, atomNumber, child, useA, useB, count, kindAt, kindByte, fieldA, fieldB}
 use Rattle.meaning.specs.Rule.{words}
 use Rattle.meaning.specs.Tree.{modalNumber}
@@ -19,7 +19,7 @@ use Rattle.meaning.specs.WellFormed.{WellFormed, Fits}
 use Rattle.meaning.proofs.Bounds.{le-or-lt}
 use Rattle.records.specs.Code.{modeOf}
 use Rattle.records.proofs.Kind.{stretch}
-use Rattle.meaning.proofs.Nodes.{differs}
+use Rattle.meaning.proofs.Nodes.{either-sort, differs}
 use Rattle.records.proofs.Numbers.{formula-number, path-number}
 use Rattle.translate.specs.Contexts.{AllHanded, Moded}
 use Rattle.translate.specs.Rows.{edgeBody, edgeHead}
@@ -88,10 +88,6 @@ unfolding modeOf modalNumber
 mode-again diamond = refl
 mode-again box = refl
 
-sorts : (σ : Sort) → (σ ≡ formula) ⊎ (σ ≡ path)
-sorts formula = inl refl
-sorts path = inr refl
-
 pub handed-moded : {s modes conts : List ℕ} → AllHanded s modes conts → Moded s modes
 handed-moded h = record { size = h .modes-size; mode = λ r l e. h .right r l e .mode }
 
@@ -102,7 +98,7 @@ record-counts {s} {modes} {r} w l =
     let K = kindAt s r in
     let m = modeOf (getD modes r 0) in
     let n = context s r .mode in
-    elim (sorts (sortOf K)) [
+    elim (either-sort (sortOf K)) [
       | inl e ↦
           sym (rules-counted K m 0 0 0 0 0) ∙ ap length (formula-same K m n 0 0 0 0 0 0 e) ∙ rules-counted K n 0 0 0 0 0
       | inr e ↦ rw (w .mode r l e, mode-again (context s r .mode))
@@ -114,7 +110,7 @@ pub record-rules : {s modes conts : List ℕ} {r : ℕ} (A : ℕ) → AllHanded 
     (label A (getD conts r 0)) (fieldA s r) ≡ rulesAt s A r
 unfolding rulesAt
 record-rules {s} {modes} {conts} {r} A w l =
-    elim (sorts (sortOf (kindAt s r))) [
+    elim (either-sort (sortOf (kindAt s r))) [
       | inl e ↦ formula-same (kindAt s r) _ _ _ _ _ _ _ _ e
       | inr e ↦ rw (w .right r l e .mode, w .right r l e .continuation, mode-again)
     ]
@@ -123,7 +119,7 @@ record-rules {s} {modes} {conts} {r} A w l =
 module _ {s : List ℕ} {A : ℕ} (w : WellFormed false s A) (r : ℕ) (l : r < count s) where
   pub core-kind : kindByte s r < 11
   core-kind =
-      elim (sorts (sortOf (kindAt s r)))
+      elim (either-sort (sortOf (kindAt s r)))
       [ inl e ↦ omega (arith, formula-number w r l e) | inr e ↦ path-number w r l e .1 ]
 
   field-small : (u : Use) (v : ℕ) → Fits s A r u v → v < 255
