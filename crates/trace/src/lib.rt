@@ -4,7 +4,7 @@ ghost use Prim.Native.Nat.{_≤_};
 ghost use Rattle.meaning.specs.Refusal.{firstOf, ground8-cells, grounds9, mostColumns};
 
 // No trace has more instants.
-pub const MOST_INSTANTS: u64 = 32;
+const MOST_INSTANTS: u64 = 32;
 
 // 8: rows of over `most` cells, no instants or over 32, or another number of cells than the rows have.
 pub fn wrong_size(most: u64, width: u64, instants: u64, cells: &[u8]) -> bool

@@ -51,7 +51,7 @@ pub fn value_formula(
 }
 
 // The square of path p; writes the rows of the formulas in it.
-pub fn path_square(
+fn path_square(
     records: &[u8],
     atoms: usize,
     l: usize,
