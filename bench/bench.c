@@ -14,7 +14,8 @@ enum { MOST_TABLE = 255 * 32 };
 /* ---- the four */
 static uint8_t with(valuer *valuer, const struct input *in, uint8_t *table)
 {
-    return valuer(in->formula.records, in->formula.n, in->atoms, in->instants, in->cells, table);
+    struct task task = {in->formula.records, in->formula.n, in->atoms, in->instants, in->cells, table};
+    return value_by(valuer, &task);
 }
 
 static uint8_t by_plain(const struct input *in, uint8_t *table) { return with(value_plain, in, table); }

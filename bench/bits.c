@@ -1,17 +1,6 @@
 /* The valuer by bits: a row of values is two masks, in which bit j tells whether the value at j is at least 1, and whether it is 2. A
  * least or a greatest of values is then an and or an or of masks, 32 instants at once. Bits past L are 0. */
-#include <string.h>
-
 #include "valuers.h"
-
-enum { MOST = 32 };
-enum kind { FALSE_, TRUE_, ATOM, DIAMOND, BOX, STEP, BACK, TEST, CHOICE, SEQUENCE, STAR };
-
-struct input {
-    const uint8_t *records, *cells;
-    size_t atoms, instants;
-    uint8_t *table;
-};
 
 typedef struct {
     uint32_t some, full; /* values of at least 1; values of 2 */
@@ -25,7 +14,7 @@ typedef struct {
 #define FOUR(k) UINT32_C(1) << (k), UINT32_C(1) << ((k) + 1), UINT32_C(1) << ((k) + 2), UINT32_C(1) << ((k) + 3)
 static const uint32_t bit[MOST] = {FOUR(0), FOUR(4), FOUR(8), FOUR(12), FOUR(16), FOUR(20), FOUR(24), FOUR(28)};
 
-static row value_formula(const struct input *in, size_t r);
+static row value_formula(const struct task *t, size_t r);
 
 /* The instants of a trace. */
 static inline uint32_t all_instants(size_t instants)
@@ -108,89 +97,89 @@ static inline void put_values(row values, uint8_t *to, size_t instants)
     memcpy(to, bytes, instants);
 }
 
-static void value_path(const struct input *in, size_t r, square *out)
+static void value_path(const struct task *t, size_t r, square *out)
 {
-    const uint8_t *record = in->records + 6 * r;
-    size_t instants = in->instants, a = record[2], b = record[4];
+    const uint8_t *record = record_of(t, r);
+    size_t instants = t->instants, a = record[FIELD_A], b = record[FIELD_B];
     uint32_t all = all_instants(instants);
 
-    memset(in->table + r * instants, 0, instants);
-    switch (record[0]) {
-    case STEP:
+    memset(t->table + r * instants, 0, instants);
+    switch (record[KIND]) {
+    case PASTUREQUILL_STEP:
         for (size_t k = 0; k < MOST; k++)
             out->some[k] = out->full[k] = bit[k] << 1 & all;
         break;
-    case BACK:
+    case PASTUREQUILL_BACK:
         for (size_t k = 0; k < MOST; k++)
             out->some[k] = out->full[k] = (bit[k] & all) >> 1;
         break;
-    case TEST: {
-        row f = value_formula(in, a);
+    case PASTUREQUILL_TEST: {
+        row f = value_formula(t, a);
         for (size_t k = 0; k < MOST; k++) {
             out->some[k] = f.some & bit[k];
             out->full[k] = f.full & bit[k];
         }
         break;
     }
-    case CHOICE: {
+    case PASTUREQUILL_CHOICE: {
         square q;
-        value_path(in, a, out);
-        value_path(in, b, &q);
+        value_path(t, a, out);
+        value_path(t, b, &q);
         for (size_t k = 0; k < MOST; k++) {
             out->some[k] |= q.some[k];
             out->full[k] |= q.full[k];
         }
         break;
     }
-    case SEQUENCE: {
+    case PASTUREQUILL_SEQUENCE: {
         square p, q;
-        const uint8_t *first = in->records + 6 * a;
-        if (first[0] == TEST) {
-            memset(in->table + a * instants, 0, instants);
-            row f = value_formula(in, first[2]);
-            value_path(in, b, out);
+        const uint8_t *first = record_of(t, a);
+        if (first[KIND] == PASTUREQUILL_TEST) {
+            memset(t->table + a * instants, 0, instants);
+            row f = value_formula(t, first[FIELD_A]);
+            value_path(t, b, out);
             cap(out->some, f.some);
             cap(out->full, f.full);
             break;
         }
-        value_path(in, a, &p);
-        value_path(in, b, &q);
+        value_path(t, a, &p);
+        value_path(t, b, &q);
         follow(p.some, q.some, out->some);
         follow(p.full, q.full, out->full);
         break;
     }
-    case STAR:
-        value_path(in, a, out);
+    case PASTUREQUILL_STAR:
+        value_path(t, a, out);
         repeat(instants, out->some);
         repeat(instants, out->full);
         break;
     }
 }
 
-static row value_formula(const struct input *in, size_t r)
+static row value_formula(const struct task *t, size_t r)
 {
-    const uint8_t *record = in->records + 6 * r;
-    size_t instants = in->instants, a = record[2], b = record[4];
+    const uint8_t *record = record_of(t, r);
+    size_t instants = t->instants, a = record[FIELD_A], b = record[FIELD_B];
     uint32_t all = all_instants(instants);
     row out = {0, 0};
 
-    switch (record[0]) {
-    case FALSE_:
+    switch (record[KIND]) {
+    case PASTUREQUILL_FALSE:
         break;
-    case TRUE_:
+    case PASTUREQUILL_TRUE:
         out.some = out.full = all;
         break;
-    case ATOM:
+    case PASTUREQUILL_ATOM:
         for (size_t k = 0; k < instants; k++) {
-            uint32_t u = in->cells[k * in->atoms + a];
+            uint32_t u = t->cells[k * t->atoms + a];
             out.some |= (uint32_t)(u >= 1) << k;
             out.full |= (uint32_t)(u == 2) << k;
         }
         break;
-    case DIAMOND: {
+    case PASTUREQUILL_DIAMOND: {
         square p;
-        value_path(in, a, &p);
-        row f = value_formula(in, b);
+        value_path(t, a, &p);
+        row f = value_formula(t, b);
         for (size_t k = 0; k < MOST; k++)
             out.some |= (p.some[k] & f.some) != 0 ? bit[k] : 0;
         for (size_t k = 0; k < MOST; k++)
@@ -199,10 +188,10 @@ static row value_formula(const struct input *in, size_t r)
     }
     /* An implication is worth at least 1 unless its conclusion is 0 and its premise is not; it is worth 2 where besides no conclusion of 1
      * stands under a premise of 2. */
-    case BOX: {
+    case PASTUREQUILL_BOX: {
         square p;
-        value_path(in, a, &p);
-        row f = value_formula(in, b);
+        value_path(t, a, &p);
+        row f = value_formula(t, b);
         for (size_t k = 0; k < MOST; k++) {
             uint32_t none = p.some[k] & ~f.some, half = p.full[k] & ~f.full;
             out.some |= none == 0 ? bit[k] : 0;
@@ -213,13 +202,11 @@ static row value_formula(const struct input *in, size_t r)
         break;
     }
     }
-    put_values(out, in->table + r * instants, instants);
+    put_values(out, t->table + r * instants, instants);
     return out;
 }
 
-uint8_t value_bits(const uint8_t *records, size_t n, size_t atoms, size_t instants, const uint8_t *cells, uint8_t *table)
+void value_bits(const struct task *t)
 {
-    struct input in = {records, cells, atoms, instants, table};
-    value_formula(&in, n - 1);
-    return table[(n - 1) * instants];
+    value_formula(t, t->n - 1);
 }

@@ -1,16 +1,5 @@
 /* The plain valuer: each sentence of the reading as a loop, values as bytes, a square as L rows of L bytes. */
-#include <string.h>
-
 #include "valuers.h"
-
-enum { MOST = 32 };
-enum kind { FALSE_, TRUE_, ATOM, DIAMOND, BOX, STEP, BACK, TEST, CHOICE, SEQUENCE, STAR };
-
-struct input {
-    const uint8_t *records, *cells;
-    size_t atoms, instants;
-    uint8_t *table;
-};
 
 typedef uint8_t square[MOST][MOST];
 
@@ -18,7 +7,7 @@ static uint8_t smaller(uint8_t u, uint8_t v) { return u < v ? u : v; }
 static uint8_t greater(uint8_t u, uint8_t v) { return u > v ? u : v; }
 static uint8_t implies(uint8_t u, uint8_t v) { return u <= v ? 2 : v; }
 
-static void value_formula(const struct input *in, size_t r);
+static void value_formula(const struct task *t, size_t r);
 
 /* One path after the other: the greatest over all instants on the way. */
 static void follow(size_t instants, square p, square q, square out)
@@ -52,91 +41,84 @@ static void repeat(size_t instants, square p, square out)
     } while (changed);
 }
 
-static void value_path(const struct input *in, size_t r, square out)
+static void value_path(const struct task *t, size_t r, square out)
 {
-    const uint8_t *record = in->records + 6 * r;
-    size_t instants = in->instants, a = record[2], b = record[4];
+    const uint8_t *record = record_of(t, r);
+    size_t instants = t->instants, a = record[FIELD_A], b = record[FIELD_B];
     square p, q;
 
-    switch (record[0]) {
-    case STEP:
+    switch (record[KIND]) {
+    case PASTUREQUILL_STEP:
         for (size_t k = 0; k < instants; k++)
             for (size_t j = 0; j < instants; j++)
                 out[k][j] = j == k + 1 ? 2 : 0;
         break;
-    case BACK:
+    case PASTUREQUILL_BACK:
         for (size_t k = 0; k < instants; k++)
             for (size_t j = 0; j < instants; j++)
                 out[k][j] = j + 1 == k ? 2 : 0;
         break;
-    case TEST:
-        value_formula(in, a);
+    case PASTUREQUILL_TEST:
+        value_formula(t, a);
         for (size_t k = 0; k < instants; k++)
             for (size_t j = 0; j < instants; j++)
-                out[k][j] = j == k ? in->table[a * instants + k] : 0;
+                out[k][j] = j == k ? t->table[a * instants + k] : 0;
         break;
-    case CHOICE:
-        value_path(in, a, p);
-        value_path(in, b, q);
+    case PASTUREQUILL_CHOICE:
+        value_path(t, a, p);
+        value_path(t, b, q);
         for (size_t k = 0; k < instants; k++)
             for (size_t j = 0; j < instants; j++)
                 out[k][j] = greater(p[k][j], q[k][j]);
         break;
-    case SEQUENCE:
-        value_path(in, a, p);
-        value_path(in, b, q);
+    case PASTUREQUILL_SEQUENCE:
+        value_path(t, a, p);
+        value_path(t, b, q);
         follow(instants, p, q, out);
         break;
-    case STAR:
-        value_path(in, a, p);
+    case PASTUREQUILL_STAR:
+        value_path(t, a, p);
         repeat(instants, p, out);
         break;
     }
-    memset(in->table + r * instants, 0, instants);
+    memset(t->table + r * instants, 0, instants);
 }
 
-static void value_formula(const struct input *in, size_t r)
+static void value_formula(const struct task *t, size_t r)
 {
-    const uint8_t *record = in->records + 6 * r;
-    size_t instants = in->instants, a = record[2], b = record[4];
-    uint8_t *row = in->table + r * instants;
+    const uint8_t *record = record_of(t, r);
+    size_t instants = t->instants, a = record[FIELD_A], b = record[FIELD_B];
+    uint8_t *row = t->table + r * instants;
     square p;
 
-    switch (record[0]) {
-    case FALSE_:
-        memset(row, 0, instants);
+    switch (record[KIND]) {
+    case PASTUREQUILL_FALSE:
+    case PASTUREQUILL_TRUE:
+    case PASTUREQUILL_ATOM:
+        put_leaf(t, r);
         break;
-    case TRUE_:
-        memset(row, 2, instants);
-        break;
-    case ATOM:
-        for (size_t k = 0; k < instants; k++)
-            row[k] = in->cells[k * in->atoms + a];
-        break;
-    case DIAMOND:
-        value_path(in, a, p);
-        value_formula(in, b);
+    case PASTUREQUILL_DIAMOND:
+        value_path(t, a, p);
+        value_formula(t, b);
         for (size_t k = 0; k < instants; k++) {
             row[k] = 0;
             for (size_t j = 0; j < instants; j++)
-                row[k] = greater(row[k], smaller(p[k][j], in->table[b * instants + j]));
+                row[k] = greater(row[k], smaller(p[k][j], t->table[b * instants + j]));
         }
         break;
-    case BOX:
-        value_path(in, a, p);
-        value_formula(in, b);
+    case PASTUREQUILL_BOX:
+        value_path(t, a, p);
+        value_formula(t, b);
         for (size_t k = 0; k < instants; k++) {
             row[k] = 2;
             for (size_t j = 0; j < instants; j++)
-                row[k] = smaller(row[k], implies(p[k][j], in->table[b * instants + j]));
+                row[k] = smaller(row[k], implies(p[k][j], t->table[b * instants + j]));
         }
         break;
     }
 }
 
-uint8_t value_plain(const uint8_t *records, size_t n, size_t atoms, size_t instants, const uint8_t *cells, uint8_t *table)
+void value_plain(const struct task *t)
 {
-    struct input in = {records, cells, atoms, instants, table};
-    value_formula(&in, n - 1);
-    return table[(n - 1) * instants];
+    value_formula(t, t->n - 1);
 }

@@ -1,23 +1,12 @@
 /* The valuer by rows: a square is 32 rows of 32 bytes whatever L is, and the innermost loop runs over one row with the other factor in
  * a local, which the compiler turns into a few vector instructions. Cells past L are 0, which changes no greatest value. */
-#include <string.h>
-
 #include "valuers.h"
-
-enum { MOST = 32 };
-enum kind { FALSE_, TRUE_, ATOM, DIAMOND, BOX, STEP, BACK, TEST, CHOICE, SEQUENCE, STAR };
-
-struct input {
-    const uint8_t *records, *cells;
-    size_t atoms, instants;
-    uint8_t *table;
-};
 
 typedef struct {
     uint8_t at[MOST][MOST];
 } square;
 
-static void value_formula(const struct input *in, size_t r);
+static void value_formula(const struct task *t, size_t r);
 
 /* Raises a row to what another row gives behind a way of value u. */
 static inline void raise_row(uint8_t *restrict row, const uint8_t *restrict other, uint8_t u)
@@ -62,91 +51,86 @@ static void repeat(size_t instants, square *p)
     }
 }
 
-static void value_path(const struct input *in, size_t r, square *out)
+static void value_path(const struct task *t, size_t r, square *out)
 {
-    const uint8_t *record = in->records + 6 * r;
-    size_t instants = in->instants, a = record[2], b = record[4];
+    const uint8_t *record = record_of(t, r);
+    size_t instants = t->instants, a = record[FIELD_A], b = record[FIELD_B];
 
-    memset(in->table + r * instants, 0, instants);
-    switch (record[0]) {
-    case STEP:
+    memset(t->table + r * instants, 0, instants);
+    switch (record[KIND]) {
+    case PASTUREQUILL_STEP:
         memset(out, 0, sizeof *out);
         for (size_t k = 0; k + 1 < instants; k++)
             out->at[k][k + 1] = 2;
         break;
-    case BACK:
+    case PASTUREQUILL_BACK:
         memset(out, 0, sizeof *out);
         for (size_t k = 1; k < instants; k++)
             out->at[k][k - 1] = 2;
         break;
-    case TEST:
-        value_formula(in, a);
+    case PASTUREQUILL_TEST:
+        value_formula(t, a);
         memset(out, 0, sizeof *out);
         for (size_t k = 0; k < instants; k++)
-            out->at[k][k] = in->table[a * instants + k];
+            out->at[k][k] = t->table[a * instants + k];
         break;
-    case CHOICE: {
+    case PASTUREQUILL_CHOICE: {
         square q;
-        value_path(in, a, out);
-        value_path(in, b, &q);
+        value_path(t, a, out);
+        value_path(t, b, &q);
         uint8_t *restrict to = &out->at[0][0];
         const uint8_t *restrict from = &q.at[0][0];
         for (size_t c = 0; c < MOST * MOST; c++)
             to[c] = to[c] > from[c] ? to[c] : from[c];
         break;
     }
-    case SEQUENCE: {
+    case PASTUREQUILL_SEQUENCE: {
         square p, q;
-        const uint8_t *first = in->records + 6 * a;
-        if (first[0] == TEST) {
-            memset(in->table + a * instants, 0, instants);
-            value_formula(in, first[2]);
-            value_path(in, b, out);
-            cap(instants, out, in->table + first[2] * instants);
+        const uint8_t *first = record_of(t, a);
+        if (first[KIND] == PASTUREQUILL_TEST) {
+            memset(t->table + a * instants, 0, instants);
+            value_formula(t, first[FIELD_A]);
+            value_path(t, b, out);
+            cap(instants, out, t->table + first[FIELD_A] * instants);
             break;
         }
-        value_path(in, a, &p);
-        value_path(in, b, &q);
+        value_path(t, a, &p);
+        value_path(t, b, &q);
         follow(instants, &p, &q, out);
         break;
     }
-    case STAR:
-        value_path(in, a, out);
+    case PASTUREQUILL_STAR:
+        value_path(t, a, out);
         repeat(instants, out);
         break;
     }
 }
 
 /* A record's values in 32 bytes, those past L 0. */
-static inline void load_row(const struct input *in, size_t r, uint8_t *row)
+static inline void load_row(const struct task *t, size_t r, uint8_t *row)
 {
     memset(row, 0, MOST);
-    memcpy(row, in->table + r * in->instants, in->instants);
+    memcpy(row, t->table + r * t->instants, t->instants);
 }
 
-static void value_formula(const struct input *in, size_t r)
+static void value_formula(const struct task *t, size_t r)
 {
-    const uint8_t *record = in->records + 6 * r;
-    size_t instants = in->instants, a = record[2], b = record[4];
-    uint8_t *row = in->table + r * instants;
+    const uint8_t *record = record_of(t, r);
+    size_t instants = t->instants, a = record[FIELD_A], b = record[FIELD_B];
+    uint8_t *row = t->table + r * instants;
 
-    switch (record[0]) {
-    case FALSE_:
-        memset(row, 0, instants);
+    switch (record[KIND]) {
+    case PASTUREQUILL_FALSE:
+    case PASTUREQUILL_TRUE:
+    case PASTUREQUILL_ATOM:
+        put_leaf(t, r);
         break;
-    case TRUE_:
-        memset(row, 2, instants);
-        break;
-    case ATOM:
-        for (size_t k = 0; k < instants; k++)
-            row[k] = in->cells[k * in->atoms + a];
-        break;
-    case DIAMOND: {
+    case PASTUREQUILL_DIAMOND: {
         square p;
         uint8_t f[MOST];
-        value_path(in, a, &p);
-        value_formula(in, b);
-        load_row(in, b, f);
+        value_path(t, a, &p);
+        value_formula(t, b);
+        load_row(t, b, f);
         for (size_t k = 0; k < instants; k++) {
             uint8_t best = 0;
             for (size_t j = 0; j < MOST; j++) {
@@ -157,12 +141,12 @@ static void value_formula(const struct input *in, size_t r)
         }
         break;
     }
-    case BOX: {
+    case PASTUREQUILL_BOX: {
         square p;
         uint8_t f[MOST];
-        value_path(in, a, &p);
-        value_formula(in, b);
-        load_row(in, b, f);
+        value_path(t, a, &p);
+        value_formula(t, b);
+        load_row(t, b, f);
         for (size_t k = 0; k < instants; k++) {
             uint8_t worst = 2;
             for (size_t j = 0; j < MOST; j++) {
@@ -176,9 +160,7 @@ static void value_formula(const struct input *in, size_t r)
     }
 }
 
-uint8_t value_rows(const uint8_t *records, size_t n, size_t atoms, size_t instants, const uint8_t *cells, uint8_t *table)
+void value_rows(const struct task *t)
 {
-    struct input in = {records, cells, atoms, instants, table};
-    value_formula(&in, n - 1);
-    return table[(n - 1) * instants];
+    value_formula(t, t->n - 1);
 }

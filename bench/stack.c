@@ -117,7 +117,8 @@ static void *value(void *argument)
 static void check(const char *name, const struct call *c)
 {
     static uint8_t table[PASTUREQUILL_MOST_RECORDS * INSTANTS];
-    uint8_t expected = value_bits(c->formula.records, c->formula.n, 1, INSTANTS, c->cells, table);
+    struct task task = {c->formula.records, c->formula.n, 1, INSTANTS, c->cells, table};
+    uint8_t expected = value_by(value_bits, &task);
     if (c->got.refusal != 0 || c->got.value != expected || memcmp(c->table, table, c->formula.n * INSTANTS) != 0) {
         fprintf(stderr, "%s: refusal %d, value %d, expected value %d and the same table\n", name, c->got.refusal, c->got.value, expected);
         exit(1);

@@ -1,16 +1,20 @@
-/* Three valuers in C that the library's time is measured against. Each takes input that pasturequill_value accepts and refuses nothing:
- *   records, n           n records of six bytes, a formula
- *   atoms, instants      0 to 32 and 1 to 32
- *   cells                instants rows of atoms cells
- *   table                n rows of instants bytes: a formula record's values, 0 for a path record
- * Each gives the whole formula's value at instant 0. They share no code, so that each stands for one way of writing it. */
+/* Three valuers in C that the library's time is measured against. Each takes a task that pasturequill_value accepts, refuses nothing and
+ * fills the table. What each does with squares is its own; they share what any valuer needs besides. */
 #ifndef VALUERS_H
 #define VALUERS_H
 
-#include <stddef.h>
-#include <stdint.h>
+#include <string.h>
 
-typedef uint8_t valuer(const uint8_t *records, size_t n, size_t atoms, size_t instants, const uint8_t *cells, uint8_t *table);
+#include "pasturequill.h"
+
+struct task {
+    const uint8_t *records; /* a formula of n */
+    size_t n, atoms, instants;
+    const uint8_t *cells; /* `instants` rows of `atoms` cells */
+    uint8_t *table;       /* n rows of `instants` bytes: a formula record's values, 0 for a path record */
+};
+
+typedef void valuer(const struct task *t);
 
 /* Byte squares, triple loops, a star by passes until nothing changes: as one first writes it. */
 valuer value_plain;
@@ -20,5 +24,37 @@ valuer value_rows;
 
 /* Two masks of 32 bits a row, one for values of at least 1 and one for values of 2: the fastest that we know. */
 valuer value_bits;
+
+/* The whole formula's value at the first instant, by one of them. */
+static inline uint8_t value_by(valuer *valuer, const struct task *t)
+{
+    valuer(t);
+    return t->table[(t->n - 1) * t->instants];
+}
+
+/* ---- what they share */
+enum { MOST = PASTUREQUILL_MOST_INSTANTS };
+
+/* A record's bytes; of its fields the low ones, as the high ones are 0 in a formula. */
+enum { KIND = 0, FIELD_A = 2, FIELD_B = 4 };
+
+static inline const uint8_t *record_of(const struct task *t, size_t r)
+{
+    return t->records + PASTUREQUILL_RECORD_SIZE * r;
+}
+
+/* The row of a record that is false, true or an atom, in bytes. */
+static inline void put_leaf(const struct task *t, size_t r)
+{
+    const uint8_t *record = record_of(t, r);
+    size_t instants = t->instants, a = record[FIELD_A];
+    uint8_t *row = t->table + r * instants;
+
+    if (record[KIND] == PASTUREQUILL_ATOM)
+        for (size_t k = 0; k < instants; k++)
+            row[k] = t->cells[k * t->atoms + a];
+    else
+        memset(row, record[KIND] == PASTUREQUILL_TRUE ? 2 : 0, instants);
+}
 
 #endif
