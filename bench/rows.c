@@ -106,18 +106,43 @@ static void value_path(const struct task *t, size_t r, square *out)
     }
 }
 
-/* A record's values in 32 bytes, those past L 0. */
-static inline void load_row(const struct task *t, size_t r, uint8_t *row)
+/* A modality's parts: its path, and its formula's values in 32 bytes, those past L 0. */
+static inline void value_parts(const struct task *t, size_t a, size_t b, square *p, uint8_t *ends)
 {
-    memset(row, 0, MOST);
-    memcpy(row, t->table + r * t->instants, t->instants);
+    value_path(t, a, p);
+    value_formula(t, b);
+    memset(ends, 0, MOST);
+    memcpy(ends, t->table + b * t->instants, t->instants);
+}
+
+/* What a diamond is worth, by a row of ways and the values at their ends. */
+static inline uint8_t best_end(const uint8_t *ways, const uint8_t *ends)
+{
+    uint8_t best = 0;
+    for (size_t j = 0; j < MOST; j++) {
+        uint8_t v = ways[j] < ends[j] ? ways[j] : ends[j];
+        best = best > v ? best : v;
+    }
+    return best;
+}
+
+/* What a box is worth. */
+static inline uint8_t worst_end(const uint8_t *ways, const uint8_t *ends)
+{
+    uint8_t worst = 2;
+    for (size_t j = 0; j < MOST; j++) {
+        uint8_t v = ways[j] <= ends[j] ? 2 : ends[j];
+        worst = worst < v ? worst : v;
+    }
+    return worst;
 }
 
 static void value_formula(const struct task *t, size_t r)
 {
     const uint8_t *record = record_of(t, r);
     size_t instants = t->instants, a = record[FIELD_A], b = record[FIELD_B];
-    uint8_t *row = t->table + r * instants;
+    uint8_t *row = t->table + r * instants, ends[MOST];
+    square p;
 
     switch (record[KIND]) {
     case PASTUREQUILL_FALSE:
@@ -125,38 +150,16 @@ static void value_formula(const struct task *t, size_t r)
     case PASTUREQUILL_ATOM:
         put_leaf(t, r);
         break;
-    case PASTUREQUILL_DIAMOND: {
-        square p;
-        uint8_t f[MOST];
-        value_path(t, a, &p);
-        value_formula(t, b);
-        load_row(t, b, f);
-        for (size_t k = 0; k < instants; k++) {
-            uint8_t best = 0;
-            for (size_t j = 0; j < MOST; j++) {
-                uint8_t v = p.at[k][j] < f[j] ? p.at[k][j] : f[j];
-                best = best > v ? best : v;
-            }
-            row[k] = best;
-        }
+    case PASTUREQUILL_DIAMOND:
+        value_parts(t, a, b, &p, ends);
+        for (size_t k = 0; k < instants; k++)
+            row[k] = best_end(p.at[k], ends);
         break;
-    }
-    case PASTUREQUILL_BOX: {
-        square p;
-        uint8_t f[MOST];
-        value_path(t, a, &p);
-        value_formula(t, b);
-        load_row(t, b, f);
-        for (size_t k = 0; k < instants; k++) {
-            uint8_t worst = 2;
-            for (size_t j = 0; j < MOST; j++) {
-                uint8_t v = p.at[k][j] <= f[j] ? 2 : f[j];
-                worst = worst < v ? worst : v;
-            }
-            row[k] = worst;
-        }
+    case PASTUREQUILL_BOX:
+        value_parts(t, a, b, &p, ends);
+        for (size_t k = 0; k < instants; k++)
+            row[k] = worst_end(p.at[k], ends);
         break;
-    }
     }
 }
 
