@@ -9,7 +9,7 @@
 #include "valuers.h"
 #include "workloads.h"
 
-enum { MOST_TABLE = 255 * 32 };
+enum { MOST_TABLE = PASTUREQUILL_MOST_RECORDS * PASTUREQUILL_MOST_INSTANTS };
 
 /* ---- the four */
 static uint8_t with(valuer *valuer, const struct input *in, uint8_t *table)

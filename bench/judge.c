@@ -1,21 +1,16 @@
 /* The plain judge: each sentence of document 01 as a line or a loop. */
 #include "judge.h"
 
-enum { RULE_SIZE = 6, MOST_WORDS = 6126, MOST_WIDTH = 287, MOST_INSTANTS = 32 };
-enum { SYMBOL = 16383, PREVIOUS = 16384, NEGATED = 32768 };
-enum place { EVERY, FIRST, LATER, LAST };
-
-static uint8_t smaller(uint8_t u, uint8_t v) { return u < v ? u : v; }
-static uint8_t greater(uint8_t u, uint8_t v) { return u > v ? u : v; }
-static uint8_t implies(uint8_t u, uint8_t v) { return u <= v ? 2 : v; }
+#include "rules.h"
+#include "values.h"
 
 static uint8_t literal(uint16_t word, size_t width, const uint8_t *cells, size_t k)
 {
     size_t symbol = word & SYMBOL;
     if (word & PREVIOUS)
         k--;
-    uint8_t value = symbol == 0 ? 0 : symbol == 1 ? 2 : cells[k * width + symbol - 2];
-    if (word & NEGATED)
+    uint8_t value = symbol == NO ? 0 : symbol == YES ? 2 : cells[k * width + symbol - 2];
+    if (word & NOT)
         value = value == 0 ? 2 : 0;
     return value;
 }
@@ -55,9 +50,9 @@ pasturequill_judged judge_plain(const uint16_t *rules, size_t n, size_t width, s
 
 static uint8_t refusal(const uint16_t *rules, size_t rules_size, uint64_t width, uint64_t instants, const uint8_t *cells, size_t cells_size)
 {
-    if (width > MOST_WIDTH || instants < 1 || instants > MOST_INSTANTS || cells_size != width * instants)
+    if (width > PASTUREQUILL_MOST_COLUMNS || instants < 1 || instants > PASTUREQUILL_MOST_INSTANTS || cells_size != width * instants)
         return 8;
-    if (rules_size % RULE_SIZE != 0 || rules_size > MOST_WORDS)
+    if (rules_size % RULE_SIZE != 0 || rules_size > RULE_SIZE * PASTUREQUILL_MOST_RULES)
         return 13;
     for (size_t at = 0; at < rules_size; at += RULE_SIZE) {
         const uint16_t *rule = rules + at;

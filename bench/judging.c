@@ -7,18 +7,16 @@
 
 #include "judge.h"
 #include "random.h"
+#include "rules.h"
 #include "timing.h"
-
-enum { RULE_SIZE = 6, MOST_RULES = 1021, MOST_WIDTH = 287, MOST_INSTANTS = 32 };
-enum { EVERY, FIRST, LATER, LAST };
-enum { NO, YES, PREVIOUS = 16384, NOT = 32768 };
+#include "values.h"
 
 struct work {
     const char *name;
     size_t rules, width, instants;
     int everywhere; /* only rules of every instant */
-    uint16_t words[RULE_SIZE * MOST_RULES];
-    uint8_t cells[MOST_WIDTH * MOST_INSTANTS];
+    uint16_t words[RULE_SIZE * PASTUREQUILL_MOST_RULES];
+    uint8_t cells[PASTUREQUILL_MOST_COLUMNS * PASTUREQUILL_MOST_INSTANTS];
 };
 
 static struct work works[] = {
@@ -63,11 +61,11 @@ static uint8_t shaped(struct work *w, enum shape shape, size_t a, size_t b, size
     uint8_t u = *cell(w, a, k), v = *cell(w, b, k);
     switch (shape) {
     case SMALLER:
-        return u < v ? u : v;
+        return smaller(u, v);
     case GREATER:
-        return u > v ? u : v;
+        return greater(u, v);
     case IMPLICATION:
-        return u <= v ? 2 : v;
+        return implies(u, v);
     case NEXT:
     case WEAK_NEXT:
         return k + 1 < w->instants ? *cell(w, a, k + 1) : shape == NEXT ? 0 : 2;
@@ -125,7 +123,7 @@ static void build(struct work *w)
     struct {
         enum shape shape;
         size_t a, b;
-    } drawn[MOST_WIDTH];
+    } drawn[PASTUREQUILL_MOST_COLUMNS];
     size_t given = w->width / 4, count = 0;
 
     for (size_t x = 0; x < w->width; x++) {

@@ -1,11 +1,8 @@
 /* The plain valuer: each sentence of the reading as a loop, values as bytes, a square as L rows of L bytes. */
 #include "valuers.h"
+#include "values.h"
 
 typedef uint8_t square[MOST][MOST];
-
-static uint8_t smaller(uint8_t u, uint8_t v) { return u < v ? u : v; }
-static uint8_t greater(uint8_t u, uint8_t v) { return u > v ? u : v; }
-static uint8_t implies(uint8_t u, uint8_t v) { return u <= v ? 2 : v; }
 
 static void value_formula(const struct task *t, size_t r);
 

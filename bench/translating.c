@@ -6,10 +6,11 @@
 #include <string.h>
 
 #include "formula.h"
+#include "rules.h"
 #include "timing.h"
 #include "translator.h"
 
-enum { RULE_SIZE = 6, ATOMS = 32, MOST_WORDS = RULE_SIZE * (4 * PASTUREQUILL_MOST_RECORDS + 1) };
+enum { ATOMS = PASTUREQUILL_MOST_ATOMS, MOST_WORDS = RULE_SIZE * PASTUREQUILL_MOST_RULES };
 
 struct work {
     const char *name;

@@ -1,10 +1,9 @@
 /* The plain translator: each line of document 01's list of rules as a line here. */
 #include "translator.h"
 
+#include "rules.h"
+
 enum { RECORD_SIZE = PASTUREQUILL_RECORD_SIZE, MOST_RECORDS = PASTUREQUILL_MOST_RECORDS, MOST_ATOMS = PASTUREQUILL_MOST_ATOMS };
-enum { RULE_SIZE = 6 };
-enum place { EVERY, FIRST, LATER, LAST };
-enum { NO, YES, PREVIOUS = 16384, NOT = 32768 };
 
 static uint8_t kind_of(const uint8_t *records, size_t r) { return records[RECORD_SIZE * r]; }
 static size_t field_a(const uint8_t *records, size_t r) { return records[RECORD_SIZE * r + 2] | (size_t)records[RECORD_SIZE * r + 3] << 8; }

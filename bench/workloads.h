@@ -2,9 +2,6 @@
 #ifndef WORKLOADS_H
 #define WORKLOADS_H
 
-#include <stddef.h>
-#include <stdint.h>
-
 #include "formula.h"
 
 enum { MOST_INPUTS = 16, MOST_WORKLOADS = 32 };
@@ -12,7 +9,7 @@ enum { MOST_INPUTS = 16, MOST_WORKLOADS = 32 };
 struct input {
     struct formula formula;
     size_t atoms, instants;
-    uint8_t cells[32 * 32];
+    uint8_t cells[PASTUREQUILL_MOST_ATOMS * PASTUREQUILL_MOST_INSTANTS];
     int value; /* what the whole formula is worth at instant 0, -1 where that was not worked out beforehand */
 };
 

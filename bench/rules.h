@@ -1,0 +1,14 @@
+/* A rule's words: its place, then its literals, each a symbol that may be of the previous instant and may be negated. */
+#ifndef RULES_H
+#define RULES_H
+
+#include "pasturequill.h"
+
+enum { RULE_SIZE = PASTUREQUILL_RULE_SIZE };
+enum place { EVERY, FIRST, LATER, LAST };
+enum { SYMBOL = 16383, PREVIOUS = 16384, NOT = 32768 };
+
+/* The symbols of false and true. */
+enum { NO, YES };
+
+#endif
