@@ -9,7 +9,7 @@
 #include <sys/resource.h>
 #include <unistd.h>
 
-#include "formula.h"
+#include "shapes.h"
 #include "valuers.h"
 
 enum { INSTANTS = 32, STACK = 4 << 20, PATTERN = 0xa5 };
@@ -17,19 +17,13 @@ enum { INSTANTS = 32, STACK = 4 << 20, PATTERN = 0xa5 };
 /* ---- the deepest formulas, by what lies inside what */
 static void stars(struct formula *f)
 {
-    size_t p = step(f);
-    while (left(f) > 2)
-        p = star(f, p);
+    size_t p = starred(f, step(f));
     diamond(f, p, atom(f, 0));
 }
 
 static void first_parts(struct formula *f)
 {
-    size_t p = step(f);
-    while (left(f) > 3) {
-        size_t q = back(f);
-        p = sequence(f, p, q);
-    }
+    size_t p = joined(f, sequence, back);
     diamond(f, p, atom(f, 0));
 }
 
@@ -47,19 +41,13 @@ static void second_parts(struct formula *f)
 
 static void choices(struct formula *f)
 {
-    size_t p = step(f);
-    while (left(f) > 3) {
-        size_t q = back(f);
-        p = choice(f, p, q);
-    }
+    size_t p = joined(f, choice, back);
     diamond(f, p, atom(f, 0));
 }
 
 static void tests(struct formula *f)
 {
-    size_t g = atom(f, 0);
-    while (left(f) >= 3)
-        g = not_so(f, g);
+    negated(f, atom(f, 0));
 }
 
 static void starred_tests(struct formula *f)

@@ -5,8 +5,8 @@
 #include <stdlib.h>
 #include <string.h>
 
-#include "formula.h"
 #include "rules.h"
+#include "shapes.h"
 #include "timing.h"
 #include "translator.h"
 
@@ -22,27 +22,21 @@ struct work {
 /* ---- formulas of 255 records */
 static void choice_of_steps(struct formula *f)
 {
-    size_t path = step(f);
-    while (left(f) > 2)
-        path = choice(f, path, step(f));
+    size_t path = joined(f, choice, step);
     box(f, path, yes(f));
 }
 
 static void choice_of_tests(struct formula *f)
 {
     size_t path = step(f);
-    for (size_t i = 0; left(f) > 2; i++) {
-        size_t arm = test(f, atom(f, i % ATOMS));
-        path = choice(f, path, arm);
-    }
+    for (size_t i = 0; left(f) > 2; i++)
+        path = choice(f, path, test(f, atom(f, i % ATOMS)));
     box(f, path, yes(f));
 }
 
 static void steps_in_a_row(struct formula *f)
 {
-    size_t path = step(f);
-    while (left(f) > 2)
-        path = sequence(f, path, step(f));
+    size_t path = joined(f, sequence, step);
     diamond(f, path, yes(f));
 }
 
@@ -50,10 +44,8 @@ static void steps_in_a_row(struct formula *f)
 static void long_until(struct formula *f)
 {
     size_t path = go(f, 0);
-    for (size_t i = 1; left(f) > 6; i++) {
-        size_t more = go(f, i % ATOMS);
-        path = sequence(f, path, more);
-    }
+    for (size_t i = 1; left(f) > 6; i++)
+        path = sequence(f, path, go(f, i % ATOMS));
     path = star(f, path);
     size_t on = star(f, step(f));
     diamond(f, path, diamond(f, on, atom(f, 0)));
@@ -71,9 +63,8 @@ static void stars_in_stars(struct formula *f)
 /* Each formula is tested by the next: not, not, and so on. */
 static void tests_in_tests(struct formula *f)
 {
-    size_t path = step(f), so = diamond(f, path, atom(f, 0));
-    while (left(f) > 2)
-        so = not_so(f, so);
+    size_t path = step(f);
+    negated(f, diamond(f, path, atom(f, 0)));
 }
 
 static void modalities_in_a_row(struct formula *f)
@@ -90,12 +81,6 @@ static void next(struct formula *f)
 {
     size_t path = step(f);
     diamond(f, path, atom(f, 0));
-}
-
-static void until(struct formula *f)
-{
-    size_t path = star(f, go(f, 0));
-    diamond(f, path, atom(f, 1));
 }
 
 /* Always, p implies eventually q. */

@@ -6,6 +6,7 @@
 
 #include "elevator.h"
 #include "random.h"
+#include "shapes.h"
 
 struct workload workloads[MOST_WORKLOADS];
 static size_t count;
@@ -44,13 +45,16 @@ static struct input *one(const char *name, size_t atoms, size_t instants)
     return next(atoms, instants);
 }
 
+static void built(const char *name, size_t atoms, void (*build)(struct formula *f))
+{
+    build(&one(name, atoms, 32)->formula);
+}
+
 /* ---- rules as they are written */
-static void until(void)
+static void kept_until(void)
 {
     struct input *in = one("p until q", 2, 32);
-    struct formula *f = &in->formula;
-    size_t way = star(f, go(f, 0));
-    diamond(f, way, atom(f, 1));
+    until(&in->formula);
     for (size_t k = 0; k < 32; k++) {
         in->cells[2 * k] = k == 9 ? 1 : 2;
         in->cells[2 * k + 1] = k == 31 ? 2 : 0;
@@ -59,15 +63,12 @@ static void until(void)
 }
 
 /* Always, if p then q within eight steps, and r until then. */
-static void respond(void)
+static void respond(struct formula *f)
 {
-    struct formula *f = &one("always p answered by q", 3, 32)->formula;
     size_t always = star(f, step(f)), asked = test(f, atom(f, 0));
     size_t way = go(f, 2);
-    for (int i = 0; i < 7; i++) {
-        size_t more = go(f, 2);
-        way = sequence(f, way, more);
-    }
+    for (int i = 0; i < 7; i++)
+        way = sequence(f, way, go(f, 2));
     size_t answered = diamond(f, way, atom(f, 1));
     box(f, always, box(f, asked, answered));
 }
@@ -104,10 +105,8 @@ static size_t ready_test(struct formula *f, int written_out)
     if (!written_out)
         return test(f, atom(f, READY));
     size_t ready = called_here(f, 0);
-    for (size_t x = 1; x < FLOORS; x++) {
-        size_t here = called_here(f, x);
-        ready = choice(f, ready, here);
-    }
+    for (size_t x = 1; x < FLOORS; x++)
+        ready = choice(f, ready, called_here(f, x));
     return ready;
 }
 
@@ -121,50 +120,37 @@ static void elevator(const char *name, int written_out)
 }
 
 /* ---- 255 records at 32 instants */
-static void dense_stars(void)
+static void dense_stars(struct formula *f)
 {
-    struct formula *f = &one("stars over step + back", 1, 32)->formula;
-    size_t p = either_way(f);
-    while (left(f) > 2)
-        p = star(f, p);
+    size_t p = starred(f, either_way(f));
     diamond(f, p, atom(f, 0));
 }
 
-static void sparse_stars(void)
+static void sparse_stars(struct formula *f)
 {
-    struct formula *f = &one("stars over step", 1, 32)->formula;
-    size_t p = step(f);
-    while (left(f) > 2)
-        p = star(f, p);
+    size_t p = starred(f, step(f));
     box(f, p, atom(f, 0));
 }
 
 /* The star of a pass, a further star and a further pass after it, and again. */
-static void stars_in_stars(void)
+static void stars_in_stars(struct formula *f)
 {
-    struct formula *f = &one("stars in stars, with tests", 8, 32)->formula;
     size_t p = star(f, go(f, 0));
-    for (size_t i = 1; left(f) > 2 + 6; i++) {
-        size_t on = go(f, i % 8);
-        p = star(f, sequence(f, p, on));
-    }
+    for (size_t i = 1; left(f) > 2 + 6; i++)
+        p = star(f, sequence(f, p, go(f, i % 8)));
     diamond(f, p, atom(f, 7));
 }
 
-static void dense_sequences(void)
+static void dense_sequences(struct formula *f)
 {
-    struct formula *f = &one("sequences of dense stars", 1, 32)->formula;
     size_t p = star(f, either_way(f));
-    while (left(f) > 2 + 5) {
-        size_t q = star(f, either_way(f));
-        p = sequence(f, p, q);
-    }
+    while (left(f) > 2 + 5)
+        p = sequence(f, p, star(f, either_way(f)));
     diamond(f, p, atom(f, 0));
 }
 
-static void long_sequence(void)
+static void long_sequence(struct formula *f)
 {
-    struct formula *f = &one("one long sequence", 32, 32)->formula;
     size_t p = go(f, 0);
     for (size_t i = 1; left(f) > 2 + 6; i++) {
         size_t q = i % 2 == 0 ? go(f, i % 32) : sequence(f, test(f, atom(f, i % 32)), back(f));
@@ -173,20 +159,16 @@ static void long_sequence(void)
     diamond(f, p, atom(f, 0));
 }
 
-static void many_tests(void)
+static void many_tests(struct formula *f)
 {
-    struct formula *f = &one("a star of many tests", 32, 32)->formula;
     size_t p = go(f, 0);
-    for (size_t i = 1; left(f) > 3 + 5; i++) {
-        size_t q = go(f, i % 32);
-        p = choice(f, p, q);
-    }
+    for (size_t i = 1; left(f) > 3 + 5; i++)
+        p = choice(f, p, go(f, i % 32));
     box(f, star(f, p), atom(f, 1));
 }
 
-static void nested_tests(void)
+static void nested_tests(struct formula *f)
 {
-    struct formula *f = &one("tests inside tests", 1, 32)->formula;
     size_t g = atom(f, 0);
     while (left(f) >= 5) {
         size_t p = either_way(f), q = test(f, g);
@@ -195,9 +177,8 @@ static void nested_tests(void)
     }
 }
 
-static void boxes_over_choices(void)
+static void boxes_over_choices(struct formula *f)
 {
-    struct formula *f = &one("boxes over choices", 4, 32)->formula;
     size_t g = atom(f, 0);
     for (size_t i = 0; left(f) >= 7; i++) {
         size_t p = either_way(f), tested = test(f, atom(f, i % 4));
@@ -205,9 +186,8 @@ static void boxes_over_choices(void)
     }
 }
 
-static void deep_modalities(void)
+static void deep_modalities(struct formula *f)
 {
-    struct formula *f = &one("deep modalities", 1, 32)->formula;
     size_t g = atom(f, 0);
     for (size_t i = 0; left(f) >= 2; i++) {
         size_t p = i % 4 < 2 ? step(f) : back(f);
@@ -215,14 +195,11 @@ static void deep_modalities(void)
     }
 }
 
-static void nested_untils(void)
+static void nested_untils(struct formula *f)
 {
-    struct formula *f = &one("untils inside untils", 32, 32)->formula;
     size_t g = atom(f, 0);
-    for (size_t i = 1; left(f) >= 6; i++) {
-        size_t p = star(f, go(f, i % 32));
-        g = diamond(f, p, g);
-    }
+    for (size_t i = 1; left(f) >= 6; i++)
+        g = diamond(f, star(f, go(f, i % 32)), g);
 }
 
 /* ---- random formulas */
@@ -264,20 +241,20 @@ static void random_formulas(const char *name, size_t size, size_t instants)
 
 size_t build_workloads(void)
 {
-    until();
-    respond();
+    kept_until();
+    built("always p answered by q", 3, respond);
     elevator("elevator, rule (13)", 0);
     elevator("elevator, ready written out", 1);
-    dense_stars();
-    sparse_stars();
-    stars_in_stars();
-    dense_sequences();
-    long_sequence();
-    many_tests();
-    nested_tests();
-    boxes_over_choices();
-    deep_modalities();
-    nested_untils();
+    built("stars over step + back", 1, dense_stars);
+    built("stars over step", 1, sparse_stars);
+    built("stars in stars, with tests", 8, stars_in_stars);
+    built("sequences of dense stars", 1, dense_sequences);
+    built("one long sequence", 32, long_sequence);
+    built("a star of many tests", 32, many_tests);
+    built("tests inside tests", 1, nested_tests);
+    built("boxes over choices", 4, boxes_over_choices);
+    built("deep modalities", 1, deep_modalities);
+    built("untils inside untils", 32, nested_untils);
     random_formulas("random, 7 records", 7, 32);
     random_formulas("random, 31 records, 8 instants", 31, 8);
     random_formulas("random, 31 records", 31, 32);

@@ -1,0 +1,38 @@
+/* Formulas and paths that several of the benchmarks build. */
+#ifndef SHAPES_H
+#define SHAPES_H
+
+#include "formula.h"
+
+/* p until q, the atoms 0 and 1. */
+static inline void until(struct formula *f)
+{
+    size_t way = star(f, go(f, 0));
+    diamond(f, way, atom(f, 1));
+}
+
+/* ---- as long as there are records */
+static inline void negated(struct formula *f, size_t g)
+{
+    while (left(f) > 2)
+        g = not_so(f, g);
+}
+
+/* ---- as long as there are records, but for a modality and its last formula */
+static inline size_t starred(struct formula *f, size_t p)
+{
+    while (left(f) > 2)
+        p = star(f, p);
+    return p;
+}
+
+/* A step, and one part after the other joined to it. */
+static inline size_t joined(struct formula *f, size_t (*join)(struct formula *f, size_t p, size_t q), size_t (*part)(struct formula *f))
+{
+    size_t p = step(f);
+    while (left(f) > 3)
+        p = join(f, p, part(f));
+    return p;
+}
+
+#endif
