@@ -32,13 +32,6 @@ static struct work works[] = {
 
 enum { WORKS = sizeof works / sizeof *works };
 
-static uint64_t seed = 17;
-
-static size_t below(size_t n)
-{
-    return random_below(&seed, n);
-}
-
 /* ---- rules and what makes them hold */
 static uint8_t *cell(struct work *w, size_t column, size_t k)
 {
@@ -206,6 +199,7 @@ int main(void)
 {
     double logarithms[CONTENDERS] = {0};
 
+    seed = 17;
     for (size_t i = 0; i < WORKS; i++) {
         build(&works[i]);
         agree(&works[i]);

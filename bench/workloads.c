@@ -11,13 +11,6 @@
 struct workload workloads[MOST_WORKLOADS];
 static size_t count;
 
-static uint64_t seed = 13;
-
-static size_t below(size_t n)
-{
-    return random_below(&seed, n);
-}
-
 /* The next input of the newest workload, its cells drawn at random: one in seven 0, one in seven 1, the others 2. */
 static struct input *next(size_t atoms, size_t instants)
 {
@@ -241,6 +234,7 @@ static void random_formulas(const char *name, size_t size, size_t instants)
 
 size_t build_workloads(void)
 {
+    seed = 13;
     kept_until();
     built("always p answered by q", 3, respond);
     elevator("elevator, rule (13)", 0);
