@@ -79,6 +79,7 @@ int main(void)
 
     for (size_t i = 0; i < workload_count; i++)
         agree(&workloads[i]);
+    printf("plain, rows and bits are valuers in C that take checked input; library is pasturequill_value, which takes any input.\n");
     printf("The four agree on every byte. Nanoseconds a call, medians of %d samples of %d ms or more, taken in turn:\n\n", SAMPLES,
            LEAST_SAMPLE_MS);
     printf("%-34s %7s %3s %10s %9s %9s %9s %11s %8s %8s\n", "workload", "records", "L", "plain", "rows", "bits", "library", "lib/plain",

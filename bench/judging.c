@@ -204,6 +204,8 @@ int main(void)
         build(&works[i]);
         agree(&works[i]);
     }
+    printf("\nplain is a judge in C that takes checked input; checked is the same with all refusals, and takes any input; library is\n"
+           "pasturequill_judge, which takes any input too, so that lib/checked compares like with like.\n");
     printf("The three judges agree. Nanoseconds a call, medians of %d samples of %d ms or more, taken in turn:\n\n", SAMPLES,
            LEAST_SAMPLE_MS);
     printf("%-26s %6s %4s %3s %9s %9s %9s %11s %12s\n", "rules", "number", "W", "L", "plain", "checked", "library", "lib/plain",

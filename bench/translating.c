@@ -175,6 +175,8 @@ int main(void)
         works[i].build(&works[i].formula);
         agree(&works[i]);
     }
+    printf("\nplain is a translator in C that takes checked input; checked is the same with all refusals, and takes any input; library is\n"
+           "pasturequill_translate, which takes any input too, so that lib/checked compares like with like.\n");
     printf("The three translators agree. Nanoseconds a call, medians of %d samples of %d ms or more, taken in turn:\n\n", SAMPLES,
            LEAST_SAMPLE_MS);
     printf("%-26s %7s %6s %9s %9s %9s %11s %12s\n", "formula", "records", "rules", "plain", "checked", "library", "lib/plain",
