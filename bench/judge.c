@@ -1,4 +1,4 @@
-/* The plain judge: each sentence of document 01 as a line or a loop. */
+/* The plain judge, each sentence of document 01 as a line or a loop; then its refusals. */
 #include "judge.h"
 
 #include "rules.h"

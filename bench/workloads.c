@@ -28,6 +28,7 @@ static struct input *next(size_t atoms, size_t instants)
     return in;
 }
 
+/* A new workload and its first input. */
 static struct input *one(const char *name, size_t atoms, size_t instants)
 {
     if (count == MOST_WORKLOADS) {
@@ -38,12 +39,14 @@ static struct input *one(const char *name, size_t atoms, size_t instants)
     return next(atoms, instants);
 }
 
+/* A workload of one formula at 32 instants, its cells at random. */
 static void built(const char *name, size_t atoms, void (*build)(struct formula *f))
 {
     build(&one(name, atoms, 32)->formula);
 }
 
 /* ---- rules as they are written */
+/* p holds at least there until q comes at the last instant. */
 static void kept_until(void)
 {
     struct input *in = one("p until q", 2, 32);
