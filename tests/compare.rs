@@ -9,11 +9,13 @@
 mod cells;
 mod formulas;
 mod inputs;
+mod valued;
 
 use cells::random_cells;
 use formulas::*;
 use inputs::{hex, Framed, Random};
 use std::process::exit;
+use valued::{pasturequill_value, Valued};
 
 /// Room for instants.
 const MOST: usize = 32;
@@ -216,15 +218,14 @@ fn refusal(input: &Input) -> u8 {
 
 /// What must come back, and what must then be in the table's first bytes.
 struct Expected {
-    refusal: u8,
-    value: u8,
+    valued: Valued,
     written: Vec<u8>,
 }
 
 fn expected(input: &Input) -> Expected {
     let refusal = refusal(input);
     if refusal != 0 {
-        return Expected { refusal, value: 0, written: vec![] };
+        return Expected { valued: Valued { refusal, value: 0 }, written: vec![] };
     }
     let (given, total) = told(input);
     let mut written = vec![];
@@ -237,7 +238,7 @@ fn expected(input: &Input) -> Expected {
         }
     }
     let last = input.formula.count() - 1;
-    Expected { refusal, value: three_valued(given.holds[last][0], total.holds[last][0]), written }
+    Expected { valued: Valued { refusal, value: three_valued(given.holds[last][0], total.holds[last][0]) }, written }
 }
 
 // ---- random inputs
@@ -337,63 +338,31 @@ fn random_input(random: &mut Random) -> Input {
 
 // ---- the call
 
-#[repr(C)]
-#[derive(Clone, Copy)]
-struct Valued {
-    refusal: u8,
-    value: u8,
-}
-
-extern "C" {
-    fn pasturequill_value(
-        records: *const u8,
-        records_size: usize,
-        atoms: u64,
-        instants: u64,
-        cells: *const u8,
-        cells_size: usize,
-        table: *mut u8,
-        table_size: usize,
-    ) -> Valued;
-}
-
 /// Calls the library on an input and says what is wrong with the outcome, if anything is.
 fn difference(random: &mut Random, input: &Input, expected: &Expected) -> Option<String> {
-    let records = Framed::holding(random, &input.formula.records);
-    let cells = Framed::holding(random, &input.cells);
-    let mut table = Framed::new(random, input.room);
-    let (records_before, cells_before) = (records.memory.clone(), cells.memory.clone());
-    let mut wanted = table.memory.clone();
-    wanted[table.start..table.start + expected.written.len()].copy_from_slice(&expected.written);
+    let mut records = Framed::holding(random, &input.formula.records);
+    let mut cells = Framed::holding(random, &input.cells);
+    let mut table = Framed::new(random, input.room, Random::byte);
 
     // SAFETY: each pointer is that of as many bytes as its size says, and the table's are lent to nothing else.
     let got = unsafe {
         pasturequill_value(
-            records.memory.as_ptr().add(records.start),
+            records.pointer(),
             records.size,
             input.formula.atoms,
             input.instants,
-            cells.memory.as_ptr().add(cells.start),
+            cells.pointer(),
             cells.size,
-            table.memory.as_mut_ptr().add(table.start),
+            table.pointer(),
             table.size,
         )
     };
 
-    if got.refusal != expected.refusal {
-        return Some(format!("refusal {}, expected {}", got.refusal, expected.refusal));
+    if got != expected.valued {
+        return Some(format!("{got:?}, expected {:?}", expected.valued));
     }
-    if got.value != expected.value {
-        return Some(format!("value {}, expected {}", got.value, expected.value));
-    }
-    if let Some(at) = (0..wanted.len()).find(|&at| table.memory[at] != wanted[at]) {
-        let byte = at as isize - table.start as isize;
-        return Some(format!("table byte {byte} of {} is {}, expected {}", table.size, table.memory[at], wanted[at]));
-    }
-    if records.memory != records_before || cells.memory != cells_before {
-        return Some("the records or the cells were written to".to_string());
-    }
-    None
+    let in_records = || records.difference("record byte", &[]);
+    table.difference("table byte", &expected.written).or_else(in_records).or_else(|| cells.difference("cell", &[]))
 }
 
 // ---- the run
@@ -419,12 +388,13 @@ impl Seen {
     }
 
     fn count(&mut self, input: &Input, expected: &Expected) {
-        if expected.refusal != 0 {
-            self.refused[expected.refusal as usize] += 1;
+        let Valued { refusal, value } = expected.valued;
+        if refusal != 0 {
+            self.refused[refusal as usize] += 1;
             return;
         }
         let n = input.formula.count();
-        self.values[expected.value as usize] += 1;
+        self.values[value as usize] += 1;
         self.classes[CLASSES.iter().position(|&(low, high)| low <= n && n <= high).expect("1 to 255 records")] += 1;
         self.sizes[n] = true;
         self.instants[input.instants as usize] = true;

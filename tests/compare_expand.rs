@@ -4,16 +4,16 @@
 //! postorder. Compared are the refusal, the count, every byte, and the bytes around. What was written must pass pasturequill_check, and
 //! expand to itself. Every input is drawn from a fixed seed.
 
+mod counted;
 mod formulas;
 mod inputs;
 mod seen;
 
+use counted::{counted_difference, outcome, scattered_input, take_room, Counted, Input};
 use formulas::*;
 use inputs::{hex, Framed, Random};
 use seen::Seen;
 use std::process::exit;
-
-const MOST_RECORDS: usize = 255;
 
 // ---- the expansion (document 01, Records)
 
@@ -92,12 +92,6 @@ fn expansion(formula: &Formula) -> Vec<[u8; 6]> {
 }
 
 // ---- what is refused (document 01, Numbers given back)
-
-/// What is handed to the library; `room` counts bytes.
-struct Input {
-    formula: Formula,
-    room: usize,
-}
 
 /// What must come back. `records` is how many come out of a formula that is a tree, taken or not.
 struct Expected {
@@ -243,21 +237,14 @@ fn damage(random: &mut Random, input: &mut Input) {
         14 => input.formula.atoms = far(random, input.formula.atoms),
         15 => input.formula.atoms = input.formula.atoms.saturating_sub(1),
         16..=23 => damage_shorthand(random, &mut input.formula),
-        // Room for what comes out, but for a byte or for more.
-        24..=26 => {
-            let whole = !wrong_length(&input.formula) && records_refusal(&input.formula) == 0;
-            let needed = if whole { 6 * expansion(&input.formula).len() } else { input.room };
-            input.room = needed.saturating_sub(random.pick(&[1, 1, 1, 2, 5, 6, 7, 12]));
-        }
+        24..=26 => take_room(random, input, |formula| 6 * expansion(formula).len()),
         _ => input.room = random.below(input.room + 1),
     }
 }
 
 fn random_input(random: &mut Random) -> Input {
     if random.percent(4) {
-        let atoms = random.below(4) as u64;
-        let formula = Formula { records: scattered_records(random, true), atoms, shorthands: true };
-        return Input { formula, room: random.below(200) };
+        return scattered_input(random, true);
     }
     let formula = match random.below(20) {
         0..=15 => {
@@ -283,13 +270,6 @@ fn random_input(random: &mut Random) -> Input {
 
 // ---- the calls
 
-#[repr(C)]
-#[derive(Clone, Copy)]
-struct Counted {
-    refusal: u8,
-    count: u64,
-}
-
 extern "C" {
     fn pasturequill_check(records: *const u8, records_size: usize, atoms: u64) -> u8;
     fn pasturequill_expand(records: *const u8, records_size: usize, atoms: u64, out: *mut u8, out_size: usize) -> Counted;
@@ -297,41 +277,12 @@ extern "C" {
 
 /// Calls the library on an input and says what is wrong with the outcome, if anything is.
 fn difference(random: &mut Random, input: &Input, expected: &Expected) -> Option<String> {
-    let records = Framed::holding(random, &input.formula.records);
-    let mut out = Framed::new(random, input.room);
-    let records_before = records.memory.clone();
-    let mut wanted = out.memory.clone();
-    wanted[out.start..out.start + expected.written.len()].copy_from_slice(&expected.written);
-    let count = (expected.written.len() / 6) as u64;
-
-    // SAFETY: each pointer is that of as many bytes as its size says, and the output's are lent to nothing else.
-    let got = unsafe {
-        pasturequill_expand(
-            records.memory.as_ptr().add(records.start),
-            records.size,
-            input.formula.atoms,
-            out.memory.as_mut_ptr().add(out.start),
-            out.size,
-        )
-    };
-
-    if got.refusal != expected.refusal {
-        return Some(format!("refusal {}, expected {}", got.refusal, expected.refusal));
+    let out = Framed::new(random, input.room, Random::byte);
+    let wrong = counted_difference(random, pasturequill_expand, input, out, expected.refusal, &expected.written);
+    match (wrong, expected.refusal) {
+        (None, 0) => unsettled(&expected.written, input.formula.atoms),
+        (wrong, _) => wrong,
     }
-    if got.count != count {
-        return Some(format!("count {}, expected {count}", got.count));
-    }
-    if let Some(at) = (0..wanted.len()).find(|&at| out.memory[at] != wanted[at]) {
-        let byte = at as isize - out.start as isize;
-        return Some(format!("byte {byte} of {} is {}, expected {}", out.size, out.memory[at], wanted[at]));
-    }
-    if records.memory != records_before {
-        return Some("the records were written to".to_string());
-    }
-    if got.refusal != 0 {
-        return None;
-    }
-    unsettled(&out.memory[out.start..out.start + expected.written.len()], input.formula.atoms)
 }
 
 /// Says what is wrong with records that came out, if anything is: they are a formula, and expand to themselves.
@@ -426,11 +377,6 @@ const TOLD: [&str; 19] = [
     "7 by an argument of a shorthand",
 ];
 
-fn refusal_names() -> Vec<String> {
-    let refused = [1, 2, 3, 4, 5, 6, 7, 8, 10, 14].map(|number| format!("refusal {number}"));
-    ["accepted".to_string()].into_iter().chain(refused).collect()
-}
-
 /// Whether a shorthand names a record that is named elsewhere too, all kinds being known.
 fn argument_shared(formula: &Formula) -> bool {
     let n = formula.count();
@@ -442,7 +388,7 @@ fn argument_shared(formula: &Formula) -> bool {
 fn count_outcome(seen: &mut Seen, input: &Input, expected: &Expected) {
     let formula = &input.formula;
     let (refusal, records) = (expected.refusal, expected.records);
-    seen.add(if refusal == 0 { "accepted".to_string() } else { format!("refusal {refusal}") }, true);
+    seen.add(outcome(refusal), true);
     let mut add = |name: &str, there: bool| seen.add(name.to_string(), there);
     if (3..=6).contains(&refusal) {
         let refused = (0..formula.count()).find(|&r| record_refusal(formula, r) != 0);
@@ -511,7 +457,7 @@ fn main() {
     }
 
     let told: Vec<String> = TOLD.iter().map(|name| name.to_string()).collect();
-    let names = [refusal_names(), told, (NOT..=SINCE).map(shorthand_name).collect()];
+    let names = [[0, 1, 2, 3, 4, 5, 6, 7, 8, 10, 14].map(outcome).to_vec(), told, (NOT..=SINCE).map(shorthand_name).collect()];
     println!("compare the expander: {INPUTS} inputs");
     names.iter().for_each(|names| println!("compare the expander: {}", seen.told(names)));
     let pairs = nested_names();

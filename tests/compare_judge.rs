@@ -402,29 +402,17 @@ extern "C" {
 
 /// Calls the library on an input and says what is wrong with the outcome, if anything is.
 fn difference(random: &mut Random, input: &Input, expected: Judged) -> Option<String> {
-    let rules = Framed::holding(random, &input.rules);
-    let cells = Framed::holding(random, &input.cells);
-    let (rules_before, cells_before) = (rules.memory.clone(), cells.memory.clone());
+    let mut rules = Framed::holding(random, &input.rules);
+    let mut cells = Framed::holding(random, &input.cells);
 
     // SAFETY: each pointer is that of as many elements as its size says.
-    let got = unsafe {
-        pasturequill_judge(
-            rules.memory.as_ptr().add(rules.start),
-            rules.size,
-            input.width,
-            input.instants,
-            cells.memory.as_ptr().add(cells.start),
-            cells.size,
-        )
-    };
+    let got =
+        unsafe { pasturequill_judge(rules.pointer(), rules.size, input.width, input.instants, cells.pointer(), cells.size) };
 
     if got != expected {
         return Some(format!("{got:?}, expected {expected:?}"));
     }
-    if rules.memory != rules_before || cells.memory != cells_before {
-        return Some("the rules or the cells were written to".to_string());
-    }
-    None
+    rules.difference("word", &[]).or_else(|| cells.difference("cell", &[]))
 }
 
 // ---- the run

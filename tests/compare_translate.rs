@@ -8,17 +8,21 @@
 //! values, and with the last rule there is one exactly if the formula is worth 2. Every input is drawn from a fixed seed.
 
 mod cells;
+mod counted;
 mod formulas;
 mod inputs;
 mod rules;
 mod seen;
+mod valued;
 
 use cells::random_cells;
+use counted::{counted_difference, outcome, scattered_input, take_room, Counted, Input};
 use formulas::*;
 use inputs::{hex, Framed, Random};
 use rules::*;
 use seen::Seen;
 use std::process::exit;
+use valued::pasturequill_value;
 
 // ---- the translation (document 01, Translation)
 
@@ -163,12 +167,6 @@ fn stars_faults(formula: &Formula) -> Vec<u8> {
     (0..formula.count()).filter(|&r| formula.kind(r) == STAR).flat_map(|r| star_faults(formula, r)).collect()
 }
 
-/// What is handed to the library; `room` counts words.
-struct Input {
-    formula: Formula,
-    room: usize,
-}
-
 struct Expected {
     refusal: u8,
     written: Vec<u16>,
@@ -200,11 +198,15 @@ fn expected(input: &Input) -> Expected {
 
 // ---- random inputs
 
+/// The room that a formula's rules take, in words.
+fn needed(formula: &Formula) -> usize {
+    Tree::new(formula).rules().len()
+}
+
 /// Room that is exact or longer for a formula that is a tree.
 fn input_of(random: &mut Random, formula: Formula) -> Input {
     let longer = if random.percent(50) { 0 } else { random.between(1, 100) };
-    let room = Tree::new(&formula).rules().len() + longer;
-    Input { formula, room }
+    Input { room: needed(&formula) + longer, formula }
 }
 
 /// One kind of harm, which may or may not make the input wrong: what must come of it is for `expected` to say.
@@ -227,12 +229,7 @@ fn damage(random: &mut Random, input: &mut Input) {
                 kind => kind,
             };
         }
-        // Room for what there is, but for a word or for more.
-        22 | 23 => {
-            let whole = !wrong_length(&input.formula) && records_refusal(&input.formula) == 0;
-            let needed = if whole { Tree::new(&input.formula).rules().len() } else { input.room };
-            input.room = needed.saturating_sub(random.pick(&[1, 1, 1, 2, 5, 6, 7, 12]));
-        }
+        22 | 23 => take_room(random, input, needed),
         24 => input.room = random.below(input.room + 1),
         _ => {}
     }
@@ -240,9 +237,7 @@ fn damage(random: &mut Random, input: &mut Input) {
 
 fn random_input(random: &mut Random) -> Input {
     if random.percent(4) {
-        let atoms = random.below(4) as u64;
-        let formula = Formula { records: scattered_records(random, false), atoms, shorthands: false };
-        return Input { formula, room: random.below(200) };
+        return scattered_input(random, false);
     }
     let size = random_size(random);
     let tame = random.percent(60);
@@ -256,72 +251,16 @@ fn random_input(random: &mut Random) -> Input {
     input
 }
 
-// ---- the calls
-
-#[repr(C)]
-#[derive(Clone, Copy)]
-struct Counted {
-    refusal: u8,
-    count: u64,
-}
-
-#[repr(C)]
-#[derive(Clone, Copy)]
-struct Valued {
-    refusal: u8,
-    value: u8,
-}
+// ---- the call
 
 extern "C" {
     fn pasturequill_translate(records: *const u8, records_size: usize, atoms: u64, rules: *mut u16, rules_size: usize) -> Counted;
-    fn pasturequill_value(
-        records: *const u8,
-        records_size: usize,
-        atoms: u64,
-        instants: u64,
-        cells: *const u8,
-        cells_size: usize,
-        table: *mut u8,
-        table_size: usize,
-    ) -> Valued;
 }
 
 /// Calls the library on an input and says what is wrong with the outcome, if anything is.
 fn difference(random: &mut Random, input: &Input, expected: &Expected) -> Option<String> {
-    let records = Framed::holding(random, &input.formula.records);
-    let mut rules: Framed<u16> = Framed::new(random, input.room);
-    // What stands in the words before: any number, so that a word which is not written is seen.
-    rules.memory.iter_mut().for_each(|word| *word = random.next() as u16);
-    let records_before = records.memory.clone();
-    let mut wanted = rules.memory.clone();
-    wanted[rules.start..rules.start + expected.written.len()].copy_from_slice(&expected.written);
-    let count = (expected.written.len() / RULE_SIZE) as u64;
-
-    // SAFETY: each pointer is that of as many elements as its size says, and the rules are lent to nothing else.
-    let got = unsafe {
-        pasturequill_translate(
-            records.memory.as_ptr().add(records.start),
-            records.size,
-            input.formula.atoms,
-            rules.memory.as_mut_ptr().add(rules.start),
-            rules.size,
-        )
-    };
-
-    if got.refusal != expected.refusal {
-        return Some(format!("refusal {}, expected {}", got.refusal, expected.refusal));
-    }
-    if got.count != count {
-        return Some(format!("count {}, expected {count}", got.count));
-    }
-    if let Some(at) = (0..wanted.len()).find(|&at| rules.memory[at] != wanted[at]) {
-        let word = at as isize - rules.start as isize;
-        return Some(format!("word {word} of {} is {}, expected {}", rules.size, rules.memory[at], wanted[at]));
-    }
-    if records.memory != records_before {
-        return Some("the records were written to".to_string());
-    }
-    None
+    let rules = Framed::new(random, input.room, |random| u16::from_le_bytes([random.byte(), random.byte()]));
+    counted_difference(random, pasturequill_translate, input, rules, expected.refusal, &expected.written)
 }
 
 // ---- fillings of the labels
@@ -489,20 +428,15 @@ const TOLD: [&str; 9] = [
     "10 by one word",
 ];
 
-fn refusal_names() -> Vec<String> {
-    let refused = [1, 2, 3, 4, 5, 6, 7, 8, 10, 11, 12].map(|number| format!("refusal {number}"));
-    ["accepted".to_string()].into_iter().chain(refused).collect()
-}
-
 fn count_outcome(seen: &mut Seen, input: &Input, expected: &Expected) {
     let formula = &input.formula;
     let refusal = expected.refusal;
-    seen.add(if refusal == 0 { "accepted".to_string() } else { format!("refusal {refusal}") }, true);
+    seen.add(outcome(refusal), true);
     if ![0, 10, 11, 12].contains(&refusal) {
         return;
     }
     let tree = Tree::new(formula);
-    let needed = tree.rules().len();
+    let needed = needed(formula);
     let mut add = |name: &str, there: bool| seen.add(name.to_string(), there);
     let stars: Vec<usize> = (0..formula.count()).filter(|&r| formula.kind(r) == STAR).collect();
     let tests: Vec<usize> = (0..formula.count()).filter(|&r| formula.kind(r) == TEST && tree.in_star(r)).collect();
@@ -560,7 +494,7 @@ fn compare_words(random: &mut Random) -> bool {
     }
 
     let told: Vec<String> = TOLD.iter().map(|name| name.to_string()).collect();
-    let names = [refusal_names(), told, kind_names()];
+    let names = [[0, 1, 2, 3, 4, 5, 6, 7, 8, 10, 11, 12].map(outcome).to_vec(), told, kind_names()];
     println!("compare the translator: {INPUTS} inputs");
     names.iter().for_each(|names| println!("compare the translator: {}", seen.told(names)));
     let sizes = (1..=255).filter(|&n| n != 2).map(|n| format!("{n} records"));

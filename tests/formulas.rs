@@ -3,7 +3,7 @@
 
 use crate::inputs::Random;
 
-const MOST_RECORDS: usize = 255;
+pub const MOST_RECORDS: usize = 255;
 
 pub const FALSE: u8 = 0;
 pub const TRUE: u8 = 1;
