@@ -7,13 +7,15 @@
 //! Every input is drawn from a fixed seed. Compared are the refusal, the value, every byte of the table, and the bytes around it.
 
 mod cells;
+mod counts;
 mod formulas;
 mod inputs;
 mod valued;
 
 use cells::random_cells;
+use counts::Counts;
 use formulas::*;
-use inputs::{hex, Framed, Random};
+use inputs::{damaged, hex, Framed, Random};
 use std::process::exit;
 use valued::{pasturequill_value, Valued};
 
@@ -21,7 +23,6 @@ use valued::{pasturequill_value, Valued};
 const MOST: usize = 32;
 
 /// What is handed to the library; `room` is the table's length.
-#[derive(Clone)]
 struct Input {
     formula: Formula,
     instants: u64,
@@ -327,13 +328,8 @@ fn random_input(random: &mut Random) -> Input {
         return scattered_input(random);
     }
     let size = random_size(random);
-    let mut input = accepted_input(random, size);
-    if random.percent(45) {
-        for _ in 0..random.pick(&[1, 1, 1, 1, 2, 2, 3]) {
-            damage(random, &mut input);
-        }
-    }
-    input
+    let input = accepted_input(random, size);
+    damaged(random, input, damage)
 }
 
 // ---- the call
@@ -430,14 +426,12 @@ impl Seen {
     }
 }
 
-const SEED: u64 = 2021;
 const INPUTS: usize = 100_000;
 
 fn main() {
-    let mut random = Random(SEED);
+    let mut random = Random::seeded();
     let mut seen = Seen::new();
-    let (mut passed, mut failed) = (0, 0);
-    for i in 0..INPUTS {
+    let counts = Counts::of("compare", INPUTS, |i| {
         // First every size once, whole and undamaged; then whatever comes.
         let input = match i {
             1 | 3..=255 => accepted_input(&mut random, i),
@@ -445,19 +439,14 @@ fn main() {
         };
         let expected = expected(&input);
         seen.count(&input, &expected);
-        match difference(&mut random, &input, &expected) {
-            None => passed += 1,
-            Some(what) => {
-                failed += 1;
-                if failed <= 5 {
-                    println!("compare: input {i}: {what}");
-                    println!("  records {}", hex(&input.formula.records));
-                    println!("  atoms {}, instants {}, cells {}", input.formula.atoms, input.instants, hex(&input.cells));
-                    println!("  table of {} bytes, expected to start with {}", input.room, hex(&expected.written));
-                }
-            }
-        }
-    }
+        let what = difference(&mut random, &input, &expected)?;
+        let Input { formula, instants, cells, room } = input;
+        let (atoms, records, cells, written) = (formula.atoms, hex(&formula.records), hex(&cells), hex(&expected.written));
+        Some(format!(
+            "{what}\n  records {records}\n  atoms {atoms}, instants {instants}, cells {cells}\n  \
+             table of {room} bytes, expected to start with {written}"
+        ))
+    });
 
     let numbered = |counts: &[usize], from: usize| -> String {
         let each: Vec<String> = (from..counts.len()).map(|i| format!("{i}: {}", counts[i])).collect();
@@ -473,12 +462,7 @@ fn main() {
     let classes: Vec<String> = CLASSES.iter().zip(seen.classes).map(|((low, high), count)| format!("{low} to {high}: {count}")).collect();
     println!("compare: valued, by the number of records ({})", classes.join(", "));
     println!("compare: values in the tables ({})", numbered(&seen.in_table, 0));
-    let missing = seen.missing();
-    if !missing.is_empty() {
-        println!("compare: tried too seldom: {}", missing.join(", "));
-    }
-    println!("compare with the evaluator: {passed} passed, {failed} failed");
-    if failed != 0 || passed != INPUTS || !missing.is_empty() {
+    if !counts.told("compare with the evaluator", &seen.missing()) {
         exit(1);
     }
 }

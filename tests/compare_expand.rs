@@ -5,13 +5,15 @@
 //! expand to itself. Every input is drawn from a fixed seed.
 
 mod counted;
+mod counts;
 mod formulas;
 mod inputs;
 mod seen;
 
 use counted::{counted_difference, outcome, scattered_input, take_room, Counted, Input};
+use counts::Counts;
 use formulas::*;
-use inputs::{hex, Framed, Random};
+use inputs::{damaged, hex, Framed, Random};
 use seen::Seen;
 use std::process::exit;
 
@@ -259,13 +261,8 @@ fn random_input(random: &mut Random) -> Input {
             formula_in(random, size, shorthands)
         }
     };
-    let mut input = input_of(random, formula);
-    if random.percent(45) {
-        for _ in 0..random.pick(&[1, 1, 1, 1, 2, 2, 3]) {
-            damage(random, &mut input);
-        }
-    }
-    input
+    let input = input_of(random, formula);
+    damaged(random, input, damage)
 }
 
 // ---- the calls
@@ -389,46 +386,44 @@ fn count_outcome(seen: &mut Seen, input: &Input, expected: &Expected) {
     let formula = &input.formula;
     let (refusal, records) = (expected.refusal, expected.records);
     seen.add(outcome(refusal), true);
-    let mut add = |name: &str, there: bool| seen.add(name.to_string(), there);
     if (3..=6).contains(&refusal) {
         let refused = (0..formula.count()).find(|&r| record_refusal(formula, r) != 0);
-        add(&format!("{refusal} at a shorthand"), refused.is_some_and(|r| is_shorthand(formula.kind(r))));
+        seen.add(format!("{refusal} at a shorthand"), refused.is_some_and(|r| is_shorthand(formula.kind(r))));
     }
-    add("7 by an argument of a shorthand", refusal == 7 && argument_shared(formula));
-    add("14 with 256 records out", refusal == 14 && records == 256);
-    add("14 with 257 records out", refusal == 14 && records == 257);
-    add("14 with over 600 records out", refusal == 14 && records > 600);
-    add("14 with 255 records in", refusal == 14 && formula.count() == MOST_RECORDS);
-    add("14 in room for 255 records", refusal == 14 && input.room >= 6 * MOST_RECORDS);
-    add("14 in less room", refusal == 14 && input.room < 6 * MOST_RECORDS);
-    add("10 by one byte", refusal == 10 && input.room == 6 * records - 1);
-    add("10 with 255 records out", refusal == 10 && records == MOST_RECORDS);
+    seen.add("7 by an argument of a shorthand", refusal == 7 && argument_shared(formula));
+    seen.add("14 with 256 records out", refusal == 14 && records == 256);
+    seen.add("14 with 257 records out", refusal == 14 && records == 257);
+    seen.add("14 with over 600 records out", refusal == 14 && records > 600);
+    seen.add("14 with 255 records in", refusal == 14 && formula.count() == MOST_RECORDS);
+    seen.add("14 in room for 255 records", refusal == 14 && input.room >= 6 * MOST_RECORDS);
+    seen.add("14 in less room", refusal == 14 && input.room < 6 * MOST_RECORDS);
+    seen.add("10 by one byte", refusal == 10 && input.room == 6 * records - 1);
+    seen.add("10 with 255 records out", refusal == 10 && records == MOST_RECORDS);
     if refusal != 0 {
         return;
     }
     let with = (0..formula.count()).any(|r| is_shorthand(formula.kind(r)));
     let mixed = !in_postorder(formula);
-    add("accepted with shorthands", with);
-    add("accepted with shorthands, not in postorder", with && mixed);
-    add("accepted without shorthands", !with);
-    add("accepted without shorthands, not in postorder", !with && mixed);
-    add("accepted in exact room", input.room == 6 * records);
-    add("accepted with 254 records out", records == 254);
-    add("accepted with 255 records out", records == 255);
-    add(&format!("{} records in", formula.count()), true);
-    add(&format!("{records} records out"), true);
-    add(&format!("{} atoms", formula.atoms), true);
+    seen.add("accepted with shorthands", with);
+    seen.add("accepted with shorthands, not in postorder", with && mixed);
+    seen.add("accepted without shorthands", !with);
+    seen.add("accepted without shorthands, not in postorder", !with && mixed);
+    seen.add("accepted in exact room", input.room == 6 * records);
+    seen.add("accepted with 254 records out", records == 254);
+    seen.add("accepted with 255 records out", records == 255);
+    seen.add(format!("{} records in", formula.count()), true);
+    seen.add(format!("{records} records out"), true);
+    seen.add(format!("{} atoms", formula.atoms), true);
     count_shorthands(seen, formula);
 }
 
-const SEED: u64 = 2021;
+const NAME: &str = "compare the expander";
 const INPUTS: usize = 80_000;
 
 fn main() {
-    let mut random = Random(SEED);
+    let mut random = Random::seeded();
     let mut seen = Seen::default();
-    let (mut passed, mut failed) = (0, 0);
-    for i in 0..INPUTS {
+    let counts = Counts::of(NAME, INPUTS, |i| {
         // First every number of records in and every number out, undamaged; then whatever comes. No two records come out of a formula.
         let input = match i {
             1..=255 => {
@@ -443,34 +438,22 @@ fn main() {
         };
         let expected = expected(&input);
         count_outcome(&mut seen, &input, &expected);
-        match difference(&mut random, &input, &expected) {
-            None => passed += 1,
-            Some(what) => {
-                failed += 1;
-                if failed <= 5 {
-                    println!("compare the expander: input {i}: {what}");
-                    println!("  records {}", hex(&input.formula.records));
-                    println!("  atoms {}, room for {} bytes", input.formula.atoms, input.room);
-                }
-            }
-        }
-    }
+        let what = difference(&mut random, &input, &expected)?;
+        let Input { formula, room } = input;
+        Some(format!("{what}\n  records {}\n  atoms {}, room for {room} bytes", hex(&formula.records), formula.atoms))
+    });
 
-    let told: Vec<String> = TOLD.iter().map(|name| name.to_string()).collect();
-    let names = [[0, 1, 2, 3, 4, 5, 6, 7, 8, 10, 14].map(outcome).to_vec(), told, (NOT..=SINCE).map(shorthand_name).collect()];
-    println!("compare the expander: {INPUTS} inputs");
-    names.iter().for_each(|names| println!("compare the expander: {}", seen.told(names)));
+    let outcomes = [0, 1, 2, 3, 4, 5, 6, 7, 8, 10, 14].map(outcome);
+    let names = [outcomes.to_vec(), TOLD.map(String::from).to_vec(), (NOT..=SINCE).map(shorthand_name).collect()];
+    println!("{NAME}: {INPUTS} inputs");
+    names.iter().for_each(|names| println!("{NAME}: {}", seen.told(names)));
     let pairs = nested_names();
     let least = pairs.iter().map(|name| seen.times(name)).min().expect("there are pairs");
-    println!("compare the expander: each shorthand in each argument of each, {} in all: {least} times at least", pairs.len());
+    println!("{NAME}: each shorthand in each argument of each, {} in all: {least} times at least", pairs.len());
     let sizes = (1..=255).flat_map(|n| [format!("{n} records in"), format!("{n} records out")]).filter(|name| name != "2 records out");
     let unseen = seen.below(1, sizes.chain((0..=32).map(|n| format!("{n} atoms"))));
     let missing = [seen.below(100, names.concat()), seen.below(10, pairs), unseen].concat();
-    if !missing.is_empty() {
-        println!("compare the expander: tried too seldom: {}", missing.join("; "));
-    }
-    println!("compare with the expander in Rust: {passed} passed, {failed} failed");
-    if failed != 0 || passed != INPUTS || !missing.is_empty() {
+    if !counts.told("compare with the expander in Rust", &missing) {
         exit(1);
     }
 }

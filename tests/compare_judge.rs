@@ -5,13 +5,16 @@
 //! nothing in or around the rules and cells was written to.
 
 mod cells;
+mod counts;
 mod inputs;
 mod rules;
+mod seen;
 
 use cells::random_cells;
-use inputs::{hex, Framed, Random};
+use counts::Counts;
+use inputs::{damaged, hex, Framed, Random};
 use rules::*;
-use std::collections::HashMap;
+use seen::Seen;
 use std::process::exit;
 
 const MOST_RULES: usize = 1021;
@@ -19,7 +22,6 @@ const MOST_WIDTH: usize = 287;
 const MOST_INSTANTS: usize = 32;
 
 /// What is handed to the library.
-#[derive(Clone)]
 struct Input {
     rules: Vec<u16>,
     width: u64,
@@ -378,13 +380,8 @@ fn random_input(random: &mut Random) -> Input {
     if random.percent(5) {
         return scattered_input(random);
     }
-    let mut input = accepted_input(random);
-    if random.percent(45) {
-        for _ in 0..random.pick(&[1, 1, 1, 1, 2, 2, 3]) {
-            damage(random, &mut input);
-        }
-    }
-    input
+    let input = accepted_input(random);
+    damaged(random, input, damage)
 }
 
 // ---- the call
@@ -406,8 +403,7 @@ fn difference(random: &mut Random, input: &Input, expected: Judged) -> Option<St
     let mut cells = Framed::holding(random, &input.cells);
 
     // SAFETY: each pointer is that of as many elements as its size says.
-    let got =
-        unsafe { pasturequill_judge(rules.pointer(), rules.size, input.width, input.instants, cells.pointer(), cells.size) };
+    let got = unsafe { pasturequill_judge(rules.pointer(), rules.size, input.width, input.instants, cells.pointer(), cells.size) };
 
     if got != expected {
         return Some(format!("{got:?}, expected {expected:?}"));
@@ -417,7 +413,7 @@ fn difference(random: &mut Random, input: &Input, expected: Judged) -> Option<St
 
 // ---- the run
 
-/// What must come up a hundred times or more, so that a run which tries too little is seen, and fails.
+/// What must come up a hundred times or more.
 const REFUSED: [&str; 13] = [
     "8 by the width alone",
     "8 by the instants alone",
@@ -456,103 +452,72 @@ const JUDGED: [&str; 20] = [
     "1,021 rules",
 ];
 
-/// Which of these an input is.
-fn classes(input: &Input, causes: &[Cause], expected: Judged) -> Vec<&'static str> {
-    let mut found = vec![];
-    let mut add = |name, there: bool| {
-        if there {
-            found.push(name);
-        }
-    };
+fn count_outcome(seen: &mut Seen, input: &Input, causes: &[Cause], expected: Judged) {
     let caused = |wanted: u8| causes.iter().any(|&cause| number(cause) == wanted);
-    add("8 by the width alone", causes == [Cause::Width]);
-    add("8 by the instants alone", causes == [Cause::Instants]);
-    add("8 by the number of cells alone", causes == [Cause::CellCount]);
-    add("13 by words that are no sixes alone", causes == [Cause::NotSixes]);
-    add("13 by too many rules alone", causes == [Cause::TooManyRules]);
-    add("13 by a place alone", causes == [Cause::Place]);
-    add("13 by a symbol alone", causes == [Cause::Symbol]);
-    add("13 by previous alone", causes == [Cause::Previous]);
+    seen.add("8 by the width alone", causes == [Cause::Width]);
+    seen.add("8 by the instants alone", causes == [Cause::Instants]);
+    seen.add("8 by the number of cells alone", causes == [Cause::CellCount]);
+    seen.add("13 by words that are no sixes alone", causes == [Cause::NotSixes]);
+    seen.add("13 by too many rules alone", causes == [Cause::TooManyRules]);
+    seen.add("13 by a place alone", causes == [Cause::Place]);
+    seen.add("13 by a symbol alone", causes == [Cause::Symbol]);
+    seen.add("13 by previous alone", causes == [Cause::Previous]);
     let on_constants = input.whole_rules().flat_map(misplaced).all(|found| found.symbol < 2);
-    add("13 by previous on constants alone", causes == [Cause::Previous] && on_constants);
-    add("9 alone", causes == [Cause::CellOver2]);
-    add("8 before 13", caused(8) && caused(13));
-    add("8 before 9", caused(8) && caused(9));
-    add("13 before 9", !caused(8) && caused(13) && caused(9));
+    seen.add("13 by previous on constants alone", causes == [Cause::Previous] && on_constants);
+    seen.add("9 alone", causes == [Cause::CellOver2]);
+    seen.add("8 before 13", caused(8) && caused(13));
+    seen.add("8 before 9", caused(8) && caused(9));
+    seen.add("13 before 9", !caused(8) && caused(13) && caused(9));
 
     let n = input.count() as u64;
     let judged = expected.refusal == 0;
     let yes = judged && expected.holds == 1;
     let no = judged && !yes;
     let (i, k) = (expected.rule, expected.instant);
-    add("yes", yes);
-    add("yes to no rules", yes && n == 0);
-    add("yes to 100 rules or more", yes && n >= 100);
-    add("no at rule 0, instant 0", no && i == 0 && k == 0);
-    add("no at rule 0, a later instant", no && i == 0 && k > 0);
-    add("no at a later rule, instant 0", no && i > 0 && k == 0);
-    add("no at a later rule, a later instant", no && i > 0 && k > 0);
-    add("no at the last of several rules", no && n > 1 && i == n - 1);
-    add("no at the last of several instants", no && input.instants > 1 && k == input.instants - 1);
-    add("no behind 100 rules or more", no && i >= 100);
+    seen.add("yes", yes);
+    seen.add("yes to no rules", yes && n == 0);
+    seen.add("yes to 100 rules or more", yes && n >= 100);
+    seen.add("no at rule 0, instant 0", no && i == 0 && k == 0);
+    seen.add("no at rule 0, a later instant", no && i == 0 && k > 0);
+    seen.add("no at a later rule, instant 0", no && i > 0 && k == 0);
+    seen.add("no at a later rule, a later instant", no && i > 0 && k > 0);
+    seen.add("no at the last of several rules", no && n > 1 && i == n - 1);
+    seen.add("no at the last of several instants", no && input.instants > 1 && k == input.instants - 1);
+    seen.add("no behind 100 rules or more", no && i >= 100);
     if no {
-        let place = input.rules[RULE_SIZE * i as usize];
-        add(["no by place 0", "no by place 1", "no by place 2", "no by place 3"][place as usize], true);
+        seen.add(format!("no by place {}", input.rules[RULE_SIZE * i as usize]), true);
     }
     let both_marks = |rule: &[u16]| rule[1..].iter().any(|&word| word == 49_152 || word == 49_153);
-    add("a constant with both marks", judged && input.whole_rules().any(both_marks));
-    add("width 0", judged && input.width == 0);
-    add("width 287", judged && input.width == 287);
-    add("1 instant", judged && input.instants == 1);
-    add("32 instants", judged && input.instants == 32);
-    add("1,021 rules", judged && n == 1021);
-    found
+    seen.add("a constant with both marks", judged && input.whole_rules().any(both_marks));
+    seen.add(format!("width {}", input.width), judged);
+    seen.add("1 instant", judged && input.instants == 1);
+    seen.add("32 instants", judged && input.instants == 32);
+    seen.add("1,021 rules", judged && n == 1021);
 }
 
-const SEED: u64 = 2021;
+const NAME: &str = "compare the judge";
 const INPUTS: usize = 60_000;
 
 fn main() {
-    let mut random = Random(SEED);
-    let mut seen: HashMap<&str, usize> = HashMap::new();
-    let mut widths = vec![false; MOST_WIDTH + 1];
-    let (mut passed, mut failed) = (0, 0);
-    for i in 0..INPUTS {
+    let mut random = Random::seeded();
+    let mut seen = Seen::default();
+    let counts = Counts::of(NAME, INPUTS, |_| {
         let input = random_input(&mut random);
         let causes = causes(&input);
         let expected = expected(&input, &causes);
-        for class in classes(&input, &causes, expected) {
-            *seen.entry(class).or_default() += 1;
-        }
-        if expected.refusal == 0 {
-            widths[input.width as usize] = true;
-        }
-        match difference(&mut random, &input, expected) {
-            None => passed += 1,
-            Some(what) => {
-                failed += 1;
-                if failed <= 5 {
-                    println!("compare the judge: input {i}: {what}");
-                    println!("  rules {:?}", input.rules);
-                    println!("  width {}, instants {}, cells {}", input.width, input.instants, hex(&input.cells));
-                }
-            }
-        }
-    }
+        count_outcome(&mut seen, &input, &causes, expected);
+        let what = difference(&mut random, &input, expected)?;
+        let Input { rules, width, instants, cells } = input;
+        Some(format!("{what}\n  rules {rules:?}\n  width {width}, instants {instants}, cells {}", hex(&cells)))
+    });
 
-    let times = |name: &str| seen.get(name).copied().unwrap_or(0);
-    let counted = |names: &[&str]| names.iter().map(|name| format!("{name}: {}", times(name))).collect::<Vec<_>>().join("; ");
-    println!("compare the judge: {INPUTS} inputs");
-    println!("compare the judge: refused ({})", counted(&REFUSED));
-    println!("compare the judge: judged ({})", counted(&JUDGED));
-    let seldom = REFUSED.iter().chain(&JUDGED).filter(|name| times(name) < 100).map(|name| name.to_string());
-    let unseen = (0..=MOST_WIDTH).filter(|&width| !widths[width]).map(|width| format!("width {width}"));
-    let missing: Vec<String> = seldom.chain(unseen).collect();
-    if !missing.is_empty() {
-        println!("compare the judge: tried too seldom: {}", missing.join("; "));
-    }
-    println!("compare with the judge in Rust: {passed} passed, {failed} failed");
-    if failed != 0 || passed != INPUTS || !missing.is_empty() {
+    let (refused, judged) = (REFUSED.map(String::from), JUDGED.map(String::from));
+    println!("{NAME}: {INPUTS} inputs");
+    println!("{NAME}: refused ({})", seen.told(&refused));
+    println!("{NAME}: judged ({})", seen.told(&judged));
+    let unseen = seen.below(1, (0..=MOST_WIDTH).map(|width| format!("width {width}")));
+    let missing = [seen.below(100, refused), seen.below(100, judged), unseen].concat();
+    if !counts.told("compare with the judge in Rust", &missing) {
         exit(1);
     }
 }

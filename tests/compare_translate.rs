@@ -9,6 +9,7 @@
 
 mod cells;
 mod counted;
+mod counts;
 mod formulas;
 mod inputs;
 mod rules;
@@ -17,8 +18,9 @@ mod valued;
 
 use cells::random_cells;
 use counted::{counted_difference, outcome, scattered_input, take_room, Counted, Input};
+use counts::Counts;
 use formulas::*;
-use inputs::{hex, Framed, Random};
+use inputs::{damaged, hex, Framed, Random};
 use rules::*;
 use seen::Seen;
 use std::process::exit;
@@ -242,13 +244,8 @@ fn random_input(random: &mut Random) -> Input {
     let size = random_size(random);
     let tame = random.percent(60);
     let formula = random_formula(random, size, tame, 0);
-    let mut input = input_of(random, formula);
-    if random.percent(45) {
-        for _ in 0..random.pick(&[1, 1, 1, 1, 2, 2, 3]) {
-            damage(random, &mut input);
-        }
-    }
-    input
+    let input = input_of(random, formula);
+    damaged(random, input, damage)
 }
 
 // ---- the call
@@ -437,23 +434,22 @@ fn count_outcome(seen: &mut Seen, input: &Input, expected: &Expected) {
     }
     let tree = Tree::new(formula);
     let needed = needed(formula);
-    let mut add = |name: &str, there: bool| seen.add(name.to_string(), there);
     let stars: Vec<usize> = (0..formula.count()).filter(|&r| formula.kind(r) == STAR).collect();
     let tests: Vec<usize> = (0..formula.count()).filter(|&r| formula.kind(r) == TEST && tree.in_star(r)).collect();
     let accepted = refusal == 0;
-    add("accepted with a star", accepted && !stars.is_empty());
-    add("accepted with a star in a star", accepted && stars.iter().any(|&star| tree.in_star(star)));
+    seen.add("accepted with a star", accepted && !stars.is_empty());
+    seen.add("accepted with a star in a star", accepted && stars.iter().any(|&star| tree.in_star(star)));
     let in_test = |star: usize| tests.iter().any(|&test| tree.is_within(star, test));
-    add("accepted with a star in a test in a star", accepted && stars.iter().any(|&star| in_test(star)));
-    add("accepted in exact room", accepted && input.room == needed);
+    seen.add("accepted with a star in a test in a star", accepted && stars.iter().any(|&star| in_test(star)));
+    seen.add("accepted in exact room", accepted && input.room == needed);
     let faults: Vec<Vec<u8>> = stars.iter().map(|&star| star_faults(formula, star)).filter(|faults| !faults.is_empty()).collect();
     let first = faults.first().cloned().unwrap_or_default();
     let later = |number: u8| faults.iter().skip(1).any(|faults| faults.contains(&number));
-    add("12 on a star that may stand still", first == [12, 11]);
-    add("12 before a later star's 11", first == [12] && later(11));
-    add("11 before a later star's 12", first == [11] && later(12));
-    add("11 or 12 in too little room", refusal > 10 && input.room < needed);
-    add("10 by one word", refusal == 10 && input.room == needed - 1);
+    seen.add("12 on a star that may stand still", first == [12, 11]);
+    seen.add("12 before a later star's 11", first == [12] && later(11));
+    seen.add("11 before a later star's 12", first == [11] && later(12));
+    seen.add("11 or 12 in too little room", refusal > 10 && input.room < needed);
+    seen.add("10 by one word", refusal == 10 && input.room == needed - 1);
     if accepted {
         seen.add(format!("{} records", formula.count()), true);
         seen.add(format!("{} atoms", formula.atoms), true);
@@ -461,15 +457,14 @@ fn count_outcome(seen: &mut Seen, input: &Input, expected: &Expected) {
     }
 }
 
-const SEED: u64 = 2021;
 const INPUTS: usize = 60_000;
 const SMALL: usize = 12_000;
 
 /// Random inputs, word for word.
 fn compare_words(random: &mut Random) -> bool {
+    const NAME: &str = "compare the translator";
     let mut seen = Seen::default();
-    let (mut passed, mut failed) = (0, 0);
-    for i in 0..INPUTS {
+    let counts = Counts::of(NAME, INPUTS, |i| {
         // First every size once, whole and undamaged; then whatever comes. There is no formula of two records.
         let input = match i {
             1 | 3..=255 => {
@@ -480,38 +475,25 @@ fn compare_words(random: &mut Random) -> bool {
         };
         let expected = expected(&input);
         count_outcome(&mut seen, &input, &expected);
-        match difference(random, &input, &expected) {
-            None => passed += 1,
-            Some(what) => {
-                failed += 1;
-                if failed <= 5 {
-                    println!("compare the translator: input {i}: {what}");
-                    println!("  records {}", hex(&input.formula.records));
-                    println!("  atoms {}, room for {} words", input.formula.atoms, input.room);
-                }
-            }
-        }
-    }
+        let what = difference(random, &input, &expected)?;
+        let Input { formula, room } = input;
+        Some(format!("{what}\n  records {}\n  atoms {}, room for {room} words", hex(&formula.records), formula.atoms))
+    });
 
-    let told: Vec<String> = TOLD.iter().map(|name| name.to_string()).collect();
-    let names = [[0, 1, 2, 3, 4, 5, 6, 7, 8, 10, 11, 12].map(outcome).to_vec(), told, kind_names()];
-    println!("compare the translator: {INPUTS} inputs");
-    names.iter().for_each(|names| println!("compare the translator: {}", seen.told(names)));
+    let outcomes = [0, 1, 2, 3, 4, 5, 6, 7, 8, 10, 11, 12].map(outcome);
+    let names = [outcomes.to_vec(), TOLD.map(String::from).to_vec(), kind_names()];
+    println!("{NAME}: {INPUTS} inputs");
+    names.iter().for_each(|names| println!("{NAME}: {}", seen.told(names)));
     let sizes = (1..=255).filter(|&n| n != 2).map(|n| format!("{n} records"));
     let unseen = seen.below(1, sizes.chain((0..=32).map(|n| format!("{n} atoms"))));
-    let missing = [seen.below(100, names.concat()), unseen].concat();
-    if !missing.is_empty() {
-        println!("compare the translator: tried too seldom: {}", missing.join("; "));
-    }
-    println!("compare with the translator in Rust: {passed} passed, {failed} failed");
-    failed == 0 && passed == INPUTS && missing.is_empty()
+    counts.told("compare with the translator in Rust", &[seen.below(100, names.concat()), unseen].concat())
 }
 
 /// Small formulas, by what their rules say.
 fn compare_meaning(random: &mut Random) -> bool {
+    const NAME: &str = "compare the rules";
     let mut seen = Seen::default();
-    let (mut passed, mut failed) = (0, 0);
-    for i in 0..SMALL {
+    let counts = Counts::of(NAME, SMALL, |_| {
         let size = random.pick(&[1, 3, 4, 4, 5, 5, 5, 6, 6, 7, 7, 8]);
         let atoms = random.pick(&[0, 1, 2, 2]);
         let instants = random.pick(&[1, 2, 2, 3, 3]);
@@ -521,34 +503,25 @@ fn compare_meaning(random: &mut Random) -> bool {
         seen.add(format!("{instants} instants"), true);
         match unmeant(&formula, instants, &cells) {
             Ok(value) => {
-                passed += 1;
                 seen.add(format!("value {value}"), true);
+                None
             }
             Err(what) => {
-                failed += 1;
-                if failed <= 5 {
-                    println!("compare the rules: formula {i}: {what}");
-                    println!("  records {}", hex(&formula.records));
-                    println!("  atoms {atoms}, instants {instants}, cells {}", hex(&cells));
-                }
+                let (records, cells) = (hex(&formula.records), hex(&cells));
+                Some(format!("{what}\n  records {records}\n  atoms {atoms}, instants {instants}, cells {cells}"))
             }
         }
-    }
+    });
 
     let others: Vec<String> = (1..=3).map(|l| format!("{l} instants")).chain((0..3).map(|v| format!("value {v}"))).collect();
     let names = [others, kind_names()];
-    println!("compare the rules: {SMALL} formulas over a trace each");
-    names.iter().for_each(|names| println!("compare the rules: {}", seen.told(names)));
-    let missing = seen.below(100, names.concat());
-    if !missing.is_empty() {
-        println!("compare the rules: tried too seldom: {}", missing.join("; "));
-    }
-    println!("compare the rules with the values: {passed} passed, {failed} failed");
-    failed == 0 && passed == SMALL && missing.is_empty()
+    println!("{NAME}: {SMALL} formulas over a trace each");
+    names.iter().for_each(|names| println!("{NAME}: {}", seen.told(names)));
+    counts.told("compare the rules with the values", &seen.below(100, names.concat()))
 }
 
 fn main() {
-    let mut random = Random(SEED);
+    let mut random = Random::seeded();
     let words = compare_words(&mut random);
     let meaning = compare_meaning(&mut random);
     if !words || !meaning {

@@ -36,7 +36,6 @@ pub const UNTIL: u8 = 46;
 pub const SINCE: u8 = 47;
 
 /// Records, of a formula or not, how many atoms there are, and whether they are for a service that takes shorthands.
-#[derive(Clone)]
 pub struct Formula {
     pub records: Vec<u8>,
     pub atoms: u64,

@@ -1,11 +1,15 @@
-//! What all comparisons share: random numbers from a fixed seed, slices with other memory around them, bytes in print.
+//! What all comparisons share: random numbers from a fixed seed, harm to an input, slices with other memory around them, bytes
+//! in print.
 
 use std::fmt::Display;
 
-/// Random numbers (splitmix64).
-pub struct Random(pub u64);
+/// Random numbers (splitmix64), the same in every run.
+pub struct Random(u64);
 
 impl Random {
+    pub fn seeded() -> Random {
+        Random(2021)
+    }
     pub fn next(&mut self) -> u64 {
         self.0 = self.0.wrapping_add(0x9e37_79b9_7f4a_7c15);
         let mut z = self.0;
@@ -65,6 +69,16 @@ impl<T: Copy + PartialEq + Display + From<u8>> Framed<T> {
         let place = at as isize - self.start as isize;
         Some(format!("{name} {place} of {} is {}, expected {}", self.size, self.memory[at], wanted[at]))
     }
+}
+
+/// An input as it is, or with harm done to it once or a few times.
+pub fn damaged<I>(random: &mut Random, mut input: I, damage: impl Fn(&mut Random, &mut I)) -> I {
+    if random.percent(45) {
+        for _ in 0..random.pick(&[1, 1, 1, 1, 2, 2, 3]) {
+            damage(random, &mut input);
+        }
+    }
+    input
 }
 
 pub fn hex(bytes: &[u8]) -> String {

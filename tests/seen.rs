@@ -6,9 +6,9 @@ use std::collections::HashMap;
 pub struct Seen(HashMap<String, usize>);
 
 impl Seen {
-    pub fn add(&mut self, name: String, there: bool) {
+    pub fn add(&mut self, name: impl Into<String>, there: bool) {
         if there {
-            *self.0.entry(name).or_default() += 1;
+            *self.0.entry(name.into()).or_default() += 1;
         }
     }
     pub fn times(&self, name: &str) -> usize {
