@@ -4,9 +4,8 @@
 #define TEST_NAME "expand"
 
 #include "built.h"
-#include "counts.h"
 #include "faults.h"
-#include "guarded.h"
+#include "room.h"
 
 enum { MOST_RECORDS = 255, MOST_BYTES = 6 * MOST_RECORDS };
 
@@ -32,21 +31,10 @@ enum { MOST_RECORDS = 255, MOST_BYTES = 6 * MOST_RECORDS };
 /* Compares an outcome: on a refusal all bytes stay; else the core's bytes stand at their start, if they are known, and the rest stays. */
 static void compare(const char *reason, pasturequill_counted got, const uint8_t *out, size_t room, int refusal, struct bytes core)
 {
-    uint64_t records = refusal ? 0 : core.size / 6;
+    struct bytes written = {core.at, refusal ? 0 : core.size};
     count(got.refusal == refusal, reason, "refusal", got.refusal, (uint64_t)refusal);
-    count(got.count == records, reason, "count", got.count, records);
-    for (size_t at = 0; at < room; at++) {
-        if (at < 6 * records && core.at == NULL)
-            continue;
-        uint8_t byte = at < 6 * records ? core.at[at] : fresh_byte(at);
-        if (out[at] != byte) {
-            char what[64];
-            snprintf(what, sizeof what, "byte %zu of %zu is", at, room);
-            count(0, reason, what, out[at], byte);
-            return;
-        }
-    }
-    count(1, reason, "", 0, 0);
+    count(got.count == written.size / 6, reason, "count", got.count, written.size / 6);
+    expect_room(reason, out, room, written);
 }
 
 /* One call at each edge. */
@@ -337,8 +325,7 @@ static void one_set(int length, int atoms, int first, int second, int last, int 
     if (last)
         memcpy(bytes + 6 * (RECORDS - 1), (const uint8_t[]){TEST(RECORDS - 2)}, 6);
 
-    for (size_t at = 0; at < sizeof out; at++)
-        out[at] = fresh_byte(at);
+    make_fresh(out, sizeof out);
     char reason[128];
     snprintf(reason, sizeof reason, "set: length %d, atoms %d, records %d, %d, last %d, tree %d, longer %d, room %d", length, atoms, first,
              second, last, tree, longer, room);

@@ -38,25 +38,4 @@ static inline const uint8_t *guarded(const uint8_t *bytes, size_t size, enum gua
     return guarded_copy(bytes, size, edge, PROT_READ);
 }
 
-/* A copy that may be read and written. */
-static inline uint8_t *guarded_room(const uint8_t *bytes, size_t size, enum guarded_edge edge)
-{
-    return guarded_copy(bytes, size, edge, PROT_READ | PROT_WRITE);
-}
-
-/* What stands in a byte of fresh room: never a value or a kind, and not the same everywhere. */
-static inline uint8_t fresh_byte(size_t at)
-{
-    return 0xc0 | at % 61;
-}
-
-/* Room of so many bytes, up to 10,000, for a function to write. */
-static inline uint8_t *guarded_fresh(size_t size, enum guarded_edge edge)
-{
-    static uint8_t pattern[10000];
-    for (size_t at = 0; at < size; at++)
-        pattern[at] = fresh_byte(at);
-    return guarded_room(pattern, size, edge);
-}
-
 #endif

@@ -4,9 +4,8 @@
 #define TEST_NAME "translate"
 
 #include "built.h"
-#include "counts.h"
 #include "faults.h"
-#include "guarded.h"
+#include "room.h"
 
 enum { RULE_SIZE = 6, MOST_RECORDS = 255, MOST_WORDS = 6126 };
 
@@ -28,66 +27,45 @@ enum { NO, YES, P, Q, PREVIOUS = 16384, NOT = 32768 };
     EVERY, x, u, v, NO, NO, ARROW(EVERY, NOT + (u), x), ARROW(EVERY, v, x), EVERY, YES, YES, x, u, NOT + (v)
 #define WHOLE(x) ARROW(FIRST, YES, x)
 
-/* What stands in a word before the call: no translation has a literal with both marks, and it is not the same everywhere. */
-static uint16_t before(size_t at)
+/* Compares an outcome: on a refusal all words stay; else the rules' words stand at their start, if they are known, and the rest stays. */
+static void compare(const char *reason, pasturequill_counted got, const uint16_t *words, size_t room, int refusal, struct words rules)
 {
-    return (uint16_t)(0xf000 | at % 4093);
-}
-
-/* Compares an outcome: on a refusal all words stay; else `expected` stands at their start, if its words are known, and the rest stays. */
-static void compare(const char *reason, pasturequill_counted got, const uint16_t *rules, size_t room, int refusal, uint64_t rules_expected,
-                    const uint16_t *expected)
-{
-    size_t written = refusal ? 0 : RULE_SIZE * (size_t)rules_expected;
+    size_t written = refusal ? 0 : rules.size;
     count(got.refusal == refusal, reason, "refusal", got.refusal, (uint64_t)refusal);
-    count(got.count == (refusal ? 0 : rules_expected), reason, "count", got.count, refusal ? 0 : rules_expected);
-    for (size_t at = 0; at < room; at++) {
-        if (at < written && expected == NULL)
-            continue;
-        uint16_t word = at < written ? expected[at] : before(at);
-        if (rules[at] != word) {
-            char what[64];
-            snprintf(what, sizeof what, "word %zu of %zu is", at, room);
-            count(0, reason, what, rules[at], word);
-            return;
-        }
-    }
-    count(1, reason, "", 0, 0);
+    count(got.count == written / RULE_SIZE, reason, "count", got.count, written / RULE_SIZE);
+    expect_room(reason, words, sizeof(uint16_t) * room, (struct bytes){(const uint8_t *)rules.at, sizeof(uint16_t) * written});
 }
 
 /* One call at each edge. */
-static void expect(const char *reason, struct bytes records, uint64_t atoms, size_t room, int refusal, uint64_t rules_expected,
-                   const uint16_t *expected)
+static void expect(const char *reason, struct bytes records, uint64_t atoms, size_t room, int refusal, struct words rules)
 {
-    static uint16_t pattern[MOST_WORDS + 100];
-    for (size_t at = 0; at < room; at++)
-        pattern[at] = before(at);
     for (int edge = GUARDED_AT_END; edge <= GUARDED_AT_START; edge++) {
-        uint8_t *memory = guarded_room((const uint8_t *)pattern, sizeof(uint16_t) * room, edge);
-        uint16_t *rules = (uint16_t *)(void *)memory;
-        pasturequill_counted got = pasturequill_translate(guarded(records.at, records.size, edge), records.size, atoms, rules, room);
-        compare(reason, got, rules, room, refusal, rules_expected, expected);
+        uint16_t *words = (uint16_t *)(void *)guarded_fresh(sizeof(uint16_t) * room, edge);
+        pasturequill_counted got = pasturequill_translate(guarded(records.at, records.size, edge), records.size, atoms, words, room);
+        compare(reason, got, words, room, refusal, rules);
     }
 }
 
-/* An accepted formula in room that is exact, longer, shorter by a word or a rule, and none. `expected` may be unknown. */
-static void expect_rules(const char *reason, struct bytes records, uint64_t atoms, uint64_t rules_expected, const uint16_t *expected)
+/* An accepted formula in room that is exact, longer, shorter by a word or a rule, and none. The rules' words may be unknown. */
+static void expect_rules(const char *reason, struct bytes records, uint64_t atoms, struct words rules)
 {
-    size_t n = records.size / PASTUREQUILL_RECORD_SIZE, needed = RULE_SIZE * (size_t)rules_expected;
-    count(rules_expected <= 4 * n + 1, reason, "more than four rules a record and one:", rules_expected, 4 * n + 1);
-    expect(reason, records, atoms, needed, 0, rules_expected, expected);
-    expect(reason, records, atoms, needed + 1, 0, rules_expected, expected);
-    expect(reason, records, atoms, needed + 40, 0, rules_expected, expected);
-    expect(reason, records, atoms, needed - 1, 10, 0, NULL);
-    expect(reason, records, atoms, needed - RULE_SIZE, 10, 0, NULL);
-    expect(reason, records, atoms, 0, 10, 0, NULL);
+    const struct words nothing = NONE;
+    size_t n = records.size / PASTUREQUILL_RECORD_SIZE, most = RULE_SIZE * (4 * n + 1);
+    count(rules.size <= most, reason, "more words than four rules a record and one have:", rules.size, most);
+    expect(reason, records, atoms, rules.size, 0, rules);
+    expect(reason, records, atoms, rules.size + 1, 0, rules);
+    expect(reason, records, atoms, rules.size + 40, 0, rules);
+    expect(reason, records, atoms, rules.size - 1, 10, nothing);
+    expect(reason, records, atoms, rules.size - RULE_SIZE, 10, nothing);
+    expect(reason, records, atoms, 0, 10, nothing);
 }
 
 /* A refused formula, whatever the room. */
 static void expect_refusal(const char *reason, struct bytes records, uint64_t atoms, int refusal)
 {
-    expect(reason, records, atoms, 0, refusal, 0, NULL);
-    expect(reason, records, atoms, MOST_WORDS, refusal, 0, NULL);
+    const struct words nothing = NONE;
+    expect(reason, records, atoms, 0, refusal, nothing);
+    expect(reason, records, atoms, MOST_WORDS, refusal, nothing);
 }
 
 static void expect_refusals(const struct row *rows, size_t size)
@@ -341,13 +319,13 @@ static void one_set(int length, int atoms, int first, int second, int last, int 
 
     uint16_t rules[RULE_SIZE * RULES + 20];
     size_t words = RULE_SIZE * RULES - (size_t)room;
-    for (size_t at = 0; at < sizeof rules / sizeof *rules; at++)
-        rules[at] = before(at);
+    make_fresh(rules, sizeof rules);
     char reason[128];
     snprintf(reason, sizeof reason, "set: length %d, atoms %d, records %d, %d, last %d, tree %d, star %d, room %d", length, atoms, first,
              second, last, tree, (int)star, room);
     compare(reason, pasturequill_translate(bytes, (size_t)(12 * 6 + length), atoms ? 33 : 2, rules, words), rules,
-            sizeof rules / sizeof *rules, earliest(length, atoms, first, second, last, tree, star, room), RULES, NULL);
+            sizeof rules / sizeof *rules, earliest(length, atoms, first, second, last, tree, star, room),
+            (struct words){NULL, RULE_SIZE * RULES});
 }
 
 /* A byte too many, 1; an atom too many, 8; two records with faults 2 to 6 or none; the last record a path, 6; a record that is the child of
@@ -369,6 +347,11 @@ static size_t words_wanted;
 static void start(void)
 {
     records_built = words_wanted = 0;
+}
+
+static struct words all_wanted(void)
+{
+    return (struct words){wanted, words_wanted};
 }
 
 static void want(const uint16_t *words, size_t size)
@@ -401,7 +384,7 @@ static void wide_choice(void)
             WANT(SAME(LATER, PREVIOUS + Y(r), Y(253)), ARROW(LAST, YES, Y(r)));
     }
     WANT(SAME(EVERY, Y(253), YES), SAME(EVERY, Y(254), Y(252)), WHOLE(Y(254)));
-    expect_rules("255 records, a choice of 127 steps: 764 rules", all_built(), 32, 764, wanted);
+    expect_rules("255 records, a choice of 127 steps: 764 rules", all_built(), 32, all_wanted());
     count(words_wanted == RULE_SIZE * 764, "a choice of 127 steps", "words", words_wanted, RULE_SIZE * 764);
 }
 
@@ -423,7 +406,7 @@ static void tests_in_a_choice(void)
     }
     WANT(SAME(EVERY, Y(end), 33), SAME(EVERY, Y(end + 1), Y(path)), WHOLE(Y(end + 1)));
     count(records_built == MOST_RECORDS, "a choice of 84 tests and a step", "records", records_built, MOST_RECORDS);
-    expect_rules("255 records, a choice of 84 tests and a step: 764 rules", all_built(), 32, 764, wanted);
+    expect_rules("255 records, a choice of 84 tests and a step: 764 rules", all_built(), 32, all_wanted());
     count(words_wanted == RULE_SIZE * 764, "a choice of 84 tests and a step", "words", words_wanted, RULE_SIZE * 764);
 }
 
@@ -448,7 +431,7 @@ static void tests_in_a_row(void)
     WANT(SAME(LATER, PREVIOUS + Y(251), Y(252)), ARROW(LAST, Y(251), NO), SAME(EVERY, Y(252), YES), SAME(EVERY, Y(253), Y(251)),
          SAME(EVERY, Y(254), Y(250)), WHOLE(Y(254)));
     count(records_built == MOST_RECORDS, "84 tests in a row", "records", records_built, MOST_RECORDS);
-    expect_rules("255 records, 84 tests in a row: 680 rules", all_built(), 32, 680, wanted);
+    expect_rules("255 records, 84 tests in a row: 680 rules", all_built(), 32, all_wanted());
     count(words_wanted == RULE_SIZE * 680, "84 tests in a row", "words", words_wanted, RULE_SIZE * 680);
 }
 
@@ -463,7 +446,7 @@ static void nested_stars(void)
     }
     int end = add(PASTUREQUILL_TRUE, 0, 0);
     add(PASTUREQUILL_DIAMOND, star, end);
-    expect_rules("84 stars in each other", all_built(), 0, 675, NULL);
+    expect_rules("84 stars in each other", all_built(), 0, (struct words){NULL, RULE_SIZE * 675});
 
     built[0] = PASTUREQUILL_BACK;
     expect_refusal("84 stars, the innermost the other way", all_built(), 0, 12);
@@ -492,7 +475,7 @@ static void long_body(void)
     path = add(PASTUREQUILL_STAR, path, 0);
     int end = add(PASTUREQUILL_TRUE, 0, 0);
     add(PASTUREQUILL_BOX, path, end);
-    expect_rules("a star over 126 steps", all_built(), 1, 126 * 3 + 125 * 2 + 3 + 2 + 2 + 1, NULL);
+    expect_rules("a star over 126 steps", all_built(), 1, (struct words){NULL, RULE_SIZE * (126 * 3 + 125 * 2 + 3 + 2 + 2 + 1)});
     built[0] = PASTUREQUILL_BACK;
     expect_refusal("a star over 126 steps, the first of them back", all_built(), 1, 12);
     built[0] = PASTUREQUILL_STEP;
@@ -522,22 +505,23 @@ static void no_addresses(void)
 {
     static const uint8_t records[] = {TRUE_};
     static const uint8_t still[] = {TRUE_, TEST(0), STAR(1), TRUE_, DIAMOND(2, 3)};
-    compare("no address for no records", pasturequill_translate(NULL, 0, 0, NULL, 0), NULL, 0, 1, 0, NULL);
-    compare("no address for no records, and 33 atoms", pasturequill_translate(NULL, 0, 33, NULL, 0), NULL, 0, 1, 0, NULL);
-    compare("no address for no room", pasturequill_translate(records, sizeof records, 0, NULL, 0), NULL, 0, 10, 0, NULL);
-    compare("no address for no room, and 11", pasturequill_translate(still, sizeof still, 0, NULL, 0), NULL, 0, 11, 0, NULL);
+    const struct words nothing = NONE;
+    compare("no address for no records", pasturequill_translate(NULL, 0, 0, NULL, 0), NULL, 0, 1, nothing);
+    compare("no address for no records, and 33 atoms", pasturequill_translate(NULL, 0, 33, NULL, 0), NULL, 0, 1, nothing);
+    compare("no address for no room", pasturequill_translate(records, sizeof records, 0, NULL, 0), NULL, 0, 10, nothing);
+    compare("no address for no room, and 11", pasturequill_translate(still, sizeof still, 0, NULL, 0), NULL, 0, 11, nothing);
 }
 
 int main(void)
 {
     for (size_t i = 0; i < sizeof translated / sizeof *translated; i++) {
         const struct translated *v = translated + i;
-        expect_rules(v->reason, v->records, v->atoms, v->rules.size / RULE_SIZE, v->rules.at);
+        expect_rules(v->reason, v->records, v->atoms, v->rules);
     }
     for (size_t i = 0; i < sizeof starred / sizeof *starred; i++) {
         const struct starred *v = starred + i;
         if (v->refusal == 0)
-            expect_rules(v->reason, v->records, 2, v->rules, NULL);
+            expect_rules(v->reason, v->records, 2, (struct words){NULL, RULE_SIZE * (size_t)v->rules});
         else
             expect_refusal(v->reason, v->records, 2, v->refusal);
     }

@@ -2,12 +2,10 @@
  * that may not be touched, the records and cells in memory that may only be read, and the table with and without room to spare. */
 #define TEST_NAME "value"
 
-#include "counts.h"
-#include "guarded.h"
 #include "records.h"
-#include "slices.h"
+#include "room.h"
 
-/* ---- accepted inputs */
+/* ---- the call */
 /* What record r has in the table at instant k where that needs no reading of paths; -1 if it does. */
 static int plain_value(const uint8_t *records, size_t r, uint64_t atoms, const uint8_t *cells, size_t k)
 {
@@ -27,45 +25,53 @@ static int plain_value(const uint8_t *records, size_t r, uint64_t atoms, const u
     }
 }
 
-/* `values` is the whole table, or its last row alone. The first byte that differs is told. */
+/* `values` is the whole table, or its last row alone. What needs a reading of paths is not known. */
 static void expect_table(const char *reason, struct bytes records, uint64_t atoms, size_t instants, struct bytes cells, struct bytes values,
                          const uint8_t *table, size_t room)
 {
-    size_t n = records.size / PASTUREQUILL_RECORD_SIZE, needed = n * instants;
-    for (size_t at = 0; at < room; at++) {
-        int expected = fresh_byte(at);
-        if (at < needed) {
-            expected = plain_value(records.at, at / instants, atoms, cells.at, at % instants);
-            if (at >= needed - values.size)
-                expected = values.at[at - (needed - values.size)];
-        }
-        if (expected != -1 && table[at] != expected) {
-            char what[64];
-            snprintf(what, sizeof what, "table byte %zu of %zu is", at, room);
-            count(0, reason, what, table[at], expected);
-            return;
-        }
+    static uint8_t expected[PASTUREQUILL_MOST_RECORDS * PASTUREQUILL_MOST_INSTANTS];
+    size_t needed = records.size / PASTUREQUILL_RECORD_SIZE * instants, before = needed - values.size;
+    for (size_t at = 0; at < before; at++) {
+        int plain = plain_value(records.at, at / instants, atoms, cells.at, at % instants);
+        expected[at] = plain == -1 ? table[at] : (uint8_t)plain;
     }
-    count(1, reason, "", 0, 0);
+    memcpy(expected + before, values.at, values.size);
+    expect_room(reason, table, room, (struct bytes){expected, needed});
+}
+
+/* One call at each edge: on a refusal the value is 0 and the table stays. */
+static void expect(const char *reason, struct bytes records, uint64_t atoms, uint64_t instants, struct bytes cells, size_t room, int refusal,
+                   struct bytes values)
+{
+    for (int edge = GUARDED_AT_END; edge <= GUARDED_AT_START; edge++) {
+        uint8_t *table = guarded_fresh(room, edge), value = refusal ? 0 : values.at[values.size - (size_t)instants];
+        pasturequill_valued got = pasturequill_value(guarded(records.at, records.size, edge), records.size, atoms, instants,
+                                                     guarded(cells.at, cells.size, edge), cells.size, table, room);
+        count(got.refusal == refusal, reason, "refusal", got.refusal, (uint64_t)refusal);
+        count(got.value == value, reason, "value", got.value, value);
+        if (refusal)
+            expect_room(reason, table, room, (struct bytes)NONE);
+        else
+            expect_table(reason, records, atoms, (size_t)instants, cells, values, table, room);
+    }
 }
 
 static void expect_values(const char *reason, struct bytes records, uint64_t atoms, size_t instants, struct bytes cells,
                           struct bytes values)
 {
-    static const size_t spare[] = {0, 1, 40};
     size_t needed = records.size / PASTUREQUILL_RECORD_SIZE * instants;
-    for (int edge = GUARDED_AT_END; edge <= GUARDED_AT_START; edge++)
-        for (size_t i = 0; i < sizeof spare / sizeof *spare; i++) {
-            size_t room = needed + spare[i];
-            uint8_t *table = guarded_fresh(room, edge);
-            pasturequill_valued got = pasturequill_value(guarded(records.at, records.size, edge), records.size, atoms, instants,
-                                                         guarded(cells.at, cells.size, edge), cells.size, table, room);
-            count(got.refusal == 0, reason, "refusal", got.refusal, 0);
-            count(got.value == values.at[values.size - instants], reason, "value", got.value, values.at[values.size - instants]);
-            expect_table(reason, records, atoms, instants, cells, values, table, room);
-        }
+    expect(reason, records, atoms, instants, cells, needed, 0, values);
+    expect(reason, records, atoms, instants, cells, needed + 1, 0, values);
+    expect(reason, records, atoms, instants, cells, needed + 40, 0, values);
 }
 
+static void expect_refused(const char *reason, struct bytes records, uint64_t atoms, uint64_t instants, struct bytes cells, size_t room,
+                           int refusal)
+{
+    expect(reason, records, atoms, instants, cells, room, refusal, (struct bytes)NONE);
+}
+
+/* ---- accepted inputs */
 struct valued {
     const char *reason;
     uint64_t atoms;
@@ -193,22 +199,6 @@ static const struct valued valued[] = {
 };
 
 /* ---- refused inputs */
-static void expect_refused(const char *reason, struct bytes records, uint64_t atoms, uint64_t instants, struct bytes cells, size_t room,
-                           int refusal)
-{
-    for (int edge = GUARDED_AT_END; edge <= GUARDED_AT_START; edge++) {
-        uint8_t *table = guarded_fresh(room, edge);
-        pasturequill_valued got = pasturequill_value(guarded(records.at, records.size, edge), records.size, atoms, instants,
-                                                     guarded(cells.at, cells.size, edge), cells.size, table, room);
-        count(got.refusal == refusal, reason, "refusal", got.refusal, refusal);
-        count(got.value == 0, reason, "value of a refusal", got.value, 0);
-        size_t same = 0;
-        while (same < room && table[same] == fresh_byte(same))
-            same++;
-        count(same == room, reason, "bytes of the table that are as before", same, room);
-    }
-}
-
 struct refused {
     const char *reason;
     int refusal;

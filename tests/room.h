@@ -1,0 +1,45 @@
+/* Room for a function to write: what stands in it before a call, and what must stand in it after. */
+#ifndef ROOM_H
+#define ROOM_H
+
+#include "counts.h"
+#include "guarded.h"
+#include "slices.h"
+
+/* A byte of fresh room: never a value or a kind, two of them never a literal of a translation, and not the same everywhere. */
+static inline uint8_t fresh_byte(size_t at)
+{
+    return 0xc0 | at % 61;
+}
+
+static inline void make_fresh(void *room, size_t size)
+{
+    for (size_t at = 0; at < size; at++)
+        ((uint8_t *)room)[at] = fresh_byte(at);
+}
+
+/* Fresh room of so many bytes, up to 13,000. */
+static inline uint8_t *guarded_fresh(size_t size, enum guarded_edge edge)
+{
+    static uint8_t fresh[13000];
+    make_fresh(fresh, size);
+    return guarded_copy(fresh, size, edge, PROT_READ | PROT_WRITE);
+}
+
+/* What was written stands at the start, if its bytes are known, and the rest is fresh. The first byte that differs is told. */
+static inline void expect_room(const char *reason, const void *room, size_t size, struct bytes written)
+{
+    const uint8_t *bytes = room;
+    for (size_t at = written.at == NULL ? written.size : 0; at < size; at++) {
+        uint8_t expected = at < written.size ? written.at[at] : fresh_byte(at);
+        if (bytes[at] != expected) {
+            char what[64];
+            snprintf(what, sizeof what, "byte %zu of %zu is", at, size);
+            count(0, reason, what, bytes[at], expected);
+            return;
+        }
+    }
+    count(1, reason, "", 0, 0);
+}
+
+#endif
