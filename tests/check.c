@@ -2,22 +2,17 @@
  * starting at a page that may not be touched, in memory that may only be read. */
 #define TEST_NAME "check"
 
+#include "built.h"
 #include "counts.h"
 #include "faults.h"
 #include "guarded.h"
 
-static void expect(const char *reason, const uint8_t *records, size_t size, uint64_t atoms, int refusal)
+static void expect(const char *reason, struct bytes records, uint64_t atoms, int refusal)
 {
     for (int edge = GUARDED_AT_END; edge <= GUARDED_AT_START; edge++) {
-        int got = pasturequill_check(guarded(records, size, edge), size, atoms);
+        int got = pasturequill_check(guarded(records.at, records.size, edge), records.size, atoms);
         count(got == refusal, reason, "refusal", (uint64_t)got, (uint64_t)refusal);
     }
-}
-
-static void expect_rows(const struct row *rows, size_t size)
-{
-    for (size_t i = 0; i < size; i++)
-        expect(rows[i].reason, rows[i].records, rows[i].size, rows[i].atoms, rows[i].refusal);
 }
 
 /* ---- the table */
@@ -60,35 +55,30 @@ static void pairs(void)
                 memcpy(bytes + 18, ends[last], 6);
                 char reason[64];
                 snprintf(reason, sizeof reason, "pair %d, %d, last %d, atoms %d, length %d", first, second, last, atoms, length);
-                expect(reason, bytes, 24 + length, atoms ? 33 : 2, earliest(length, atoms, first, second, last));
+                expect(reason, (struct bytes){bytes, 24 + (size_t)length}, atoms ? 33 : 2, earliest(length, atoms, first, second, last));
             }
 }
 
 /* ---- the number of records */
-/* A step under so many stars, then true and a diamond. */
-static size_t chain(uint8_t *bytes, int records)
+/* A formula of so many records, and further bytes. */
+static void expect_number(const char *reason, int records, size_t more, int refusal)
 {
-    memcpy(bytes, (const uint8_t[]){STEP}, 6);
-    for (int r = 1; r < records - 2; r++)
-        memcpy(bytes + 6 * r, (const uint8_t[]){STAR(r - 1)}, 6);
-    memcpy(bytes + 6 * (records - 2), (const uint8_t[]){TRUE_}, 6);
-    memcpy(bytes + 6 * (records - 1), (const uint8_t[]){DIAMOND(records - 3, records - 2)}, 6);
-    return 6 * (size_t)records;
+    records_built = 0;
+    add_stars(records, PASTUREQUILL_TRUE);
+    expect(reason, (struct bytes){built, all_built().size + more}, 0, refusal);
 }
 
 int main(void)
 {
-    static uint8_t bytes[6 * 1000];
-
-    expect("no bytes", bytes, 0, 0, 1);
-    expect("no bytes and 33 atoms", bytes, 0, 33, 1);
-    expect_rows(taken, sizeof taken / sizeof *taken);
-    expect_rows(faulty, sizeof faulty / sizeof *faulty);
-    expect_rows(shorthands, sizeof shorthands / sizeof *shorthands);
+    expect("no bytes", (struct bytes)NONE, 0, 1);
+    expect("no bytes and 33 atoms", (struct bytes)NONE, 33, 1);
+    expect_rows(taken, sizeof taken / sizeof *taken, expect);
+    expect_rows(faulty, sizeof faulty / sizeof *faulty, expect);
+    expect_rows(shorthands, sizeof shorthands / sizeof *shorthands, expect);
     pairs();
-    expect("255 records", bytes, chain(bytes, 255), 0, 0);
-    expect("256 records", bytes, chain(bytes, 256), 0, 1);
-    expect("1,000 records", bytes, chain(bytes, 1000), 0, 1);
-    expect("255 records and a byte", bytes, chain(bytes, 255) + 1, 0, 1);
+    expect_number("255 records", 255, 0, 0);
+    expect_number("256 records", 256, 0, 1);
+    expect_number("1,000 records", 1000, 0, 1);
+    expect_number("255 records and a byte", 255, 1, 1);
     return counts_told();
 }

@@ -80,12 +80,6 @@ static void expect_refusal(const char *reason, struct bytes records, uint64_t at
     expect(reason, records, atoms, 4 * MOST_BYTES, refusal, nothing);
 }
 
-static void expect_refusals(const struct row *rows, size_t size)
-{
-    for (size_t i = 0; i < size; i++)
-        expect_refusal(rows[i].reason, (struct bytes){rows[i].records, rows[i].size}, rows[i].atoms, rows[i].refusal);
-}
-
 /* ---- byte for byte */
 struct expanded {
     const char *reason;
@@ -364,22 +358,6 @@ static void start(void)
     records_built = records_wanted = 0;
 }
 
-/* So many shorthands of one argument on top of each other. */
-static int add_times(uint8_t kind, int times, int f)
-{
-    for (int i = 0; i < times; i++)
-        f = add(kind, f, 0);
-    return f;
-}
-
-/* A core formula of so many records, three or more: a step under stars, true, and a diamond. */
-static int add_core(int records)
-{
-    int path = add_times(PASTUREQUILL_STAR, records - 3, add(PASTUREQUILL_STEP, 0, 0));
-    int end = add(PASTUREQUILL_TRUE, 0, 0);
-    return add(PASTUREQUILL_DIAMOND, path, end);
-}
-
 /* True 127 steps on: all steps come first, the outermost of them at the very start. */
 static void want_steps(void)
 {
@@ -461,11 +439,11 @@ static void reaches(const struct shorthand *s, int records)
     snprintf(reason, sizeof reason, "%s: %d records", s->name, records);
     start();
     if (s->arguments == 0) {
-        int f = add_core(records - s->own - 2), end = add(s->kind, 0, 0);
+        int f = add_stars(records - s->own - 2, PASTUREQUILL_TRUE), end = add(s->kind, 0, 0);
         add(PASTUREQUILL_AND, f, end);
     } else {
-        int f = add_core(records - s->own - (s->arguments == 2)), g = s->arguments == 2 ? add(PASTUREQUILL_TRUE, 0, 0) : 0;
-        add(s->kind, f, g);
+        int two = s->arguments == 2, f = add_stars(records - s->own - two, PASTUREQUILL_TRUE);
+        add(s->kind, f, two ? add(PASTUREQUILL_TRUE, 0, 0) : 0);
     }
     if (records <= MOST_RECORDS)
         expect_core(reason, all_built(), 0, (struct bytes){NULL, 6 * (size_t)records});
@@ -477,13 +455,13 @@ static void reaches(const struct shorthand *s, int records)
 static void most_records_in(void)
 {
     start();
-    add_core(255);
+    add_stars(255, PASTUREQUILL_TRUE);
     expect_core("255 core records", all_built(), 0, all_built());
     start();
-    add(PASTUREQUILL_NEXT, add_core(253), 0);
+    add(PASTUREQUILL_NEXT, add_stars(253, PASTUREQUILL_TRUE), 0);
     expect_core("254 records, one of them a next", all_built(), 0, (struct bytes){NULL, MOST_BYTES});
     start();
-    add(PASTUREQUILL_NEXT, add_core(254), 0);
+    add(PASTUREQUILL_NEXT, add_stars(254, PASTUREQUILL_TRUE), 0);
     expect_refusal("255 records, one of them a next: 256 out", all_built(), 0, 14);
 
     start();
@@ -529,8 +507,8 @@ int main(void)
 {
     for (size_t i = 0; i < sizeof expanded / sizeof *expanded; i++)
         expect_core(expanded[i].reason, expanded[i].records, 3, expanded[i].core);
-    expect_refusals(faulty, sizeof faulty / sizeof *faulty);
-    expect_refusals(refused, sizeof refused / sizeof *refused);
+    expect_rows(faulty, sizeof faulty / sizeof *faulty, expect_refusal);
+    expect_rows(refused, sizeof refused / sizeof *refused, expect_refusal);
     sets();
     for (size_t i = 0; i < sizeof every / sizeof *every; i++) {
         count(every[i].kind == 32 + i, every[i].name, "number in the header", every[i].kind, 32 + i);

@@ -5,17 +5,23 @@
 #include <string.h>
 
 #include "records.h"
+#include "slices.h"
 
 struct row {
     const char *reason;
     int refusal;
     uint64_t atoms;
-    size_t size;
-    const uint8_t *records;
+    struct bytes records;
 };
 
-#define CASE(refusal, atoms, reason, ...) \
-    { reason, refusal, atoms, sizeof((const uint8_t[]){__VA_ARGS__}), (const uint8_t[]){__VA_ARGS__} }
+#define CASE(refusal, atoms, reason, ...) {reason, refusal, atoms, BYTES(__VA_ARGS__)}
+
+static inline void expect_rows(const struct row *rows, size_t size,
+                               void (*expect)(const char *reason, struct bytes records, uint64_t atoms, int refusal))
+{
+    for (size_t i = 0; i < size; i++)
+        expect(rows[i].reason, rows[i].records, rows[i].atoms, rows[i].refusal);
+}
 
 /* What every one of them refuses. */
 static const struct row faulty[] = {
@@ -90,7 +96,7 @@ static const struct row shorthands[] = {
     CASE(2, 2, "the last shorthand", ATOM(0), ATOM(1), R(47, 0, 1)),
 };
 
-/* A record with one fault, at place `r`, where record 0 is true and there are two atoms. */
+/* A record with one fault, at place `r`, where record 0 is a formula and there are two atoms. */
 static inline void put_fault(uint8_t *record, int fault, int r)
 {
     const uint8_t faults[][6] = {

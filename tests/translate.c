@@ -68,12 +68,6 @@ static void expect_refusal(const char *reason, struct bytes records, uint64_t at
     expect(reason, records, atoms, MOST_WORDS, refusal, nothing);
 }
 
-static void expect_refusals(const struct row *rows, size_t size)
-{
-    for (size_t i = 0; i < size; i++)
-        expect_refusal(rows[i].reason, (struct bytes){rows[i].records, rows[i].size}, rows[i].atoms, rows[i].refusal);
-}
-
 /* ---- word for word */
 struct translated {
     const char *reason;
@@ -525,8 +519,8 @@ int main(void)
         else
             expect_refusal(v->reason, v->records, 2, v->refusal);
     }
-    expect_refusals(faulty, sizeof faulty / sizeof *faulty);
-    expect_refusals(shorthands, sizeof shorthands / sizeof *shorthands);
+    expect_rows(faulty, sizeof faulty / sizeof *faulty, expect_refusal);
+    expect_rows(shorthands, sizeof shorthands / sizeof *shorthands, expect_refusal);
     sets();
     wide_choice();
     tests_in_a_choice();

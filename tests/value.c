@@ -2,7 +2,8 @@
  * that may not be touched, the records and cells in memory that may only be read, and the table with and without room to spare. */
 #define TEST_NAME "value"
 
-#include "records.h"
+#include "built.h"
+#include "faults.h"
 #include "room.h"
 
 /* ---- the call */
@@ -80,7 +81,8 @@ struct valued {
 };
 
 /* The formulas that stand in several cases. */
-#define UNTIL BYTES(ATOM(0), TEST(0), STEP, SEQUENCE(1, 2), STAR(3), ATOM(1), DIAMOND(4, 5))
+static const uint8_t until[] = {ATOM(0), TEST(0), STEP, SEQUENCE(1, 2), STAR(3), ATOM(1), DIAMOND(4, 5)};
+#define UNTIL {until, sizeof until}
 #define AS_LONG_AS BYTES(ATOM(0), TEST(0), STEP, SEQUENCE(1, 2), STAR(3), ATOM(1), BOX(4, 5))
 #define IMPLIES BYTES(ATOM(0), TEST(0), ATOM(1), BOX(1, 2))
 #define STANDING BYTES(ATOM(0), TEST(0), STAR(1), ATOM(1), DIAMOND(2, 3))
@@ -296,8 +298,6 @@ static int earliest(int length, enum size_fault sizes, int record, enum end_faul
  * path (6) or not the parent of the one before (7), a cell of 3 (9), and a byte of room too little (10): all sets of these. */
 static void sets(void)
 {
-    static const uint8_t until[] = {ATOM(0), TEST(0), STEP, SEQUENCE(1, 2), STAR(3), ATOM(1), DIAMOND(4, 5)};
-    static const uint8_t faults[][6] = {{0}, {0}, {R(11, 0, 0)}, {R(PASTUREQUILL_TEST, 0, 1)}, {TEST(1)}, {ATOM(2)}, {STAR(0)}};
     static const uint8_t ends[][6] = {{0}, {STEP}, {TRUE_}};
     static const uint8_t cells[] = {2, 0, 1, 3, 2, 0, 1, 2};
 
@@ -310,7 +310,7 @@ static void sets(void)
             uint8_t bytes[sizeof until + 7] = {0};
             memcpy(bytes, until, sizeof until);
             if (record != 0)
-                memcpy(bytes + 6, faults[record], 6);
+                put_fault(bytes + 6, record, 1);
             memcpy(bytes + sizeof until, ends[end], 6);
             struct bytes records = {bytes, sizeof until + (end != END_FINE) * 6 + (size_t)length};
             struct bytes trace = {cells + (cell ? 0 : 4), sizes == CELL_MISSING ? 3 : 4};
@@ -328,49 +328,39 @@ static void sets(void)
 }
 
 /* ---- the greatest sizes */
-static void put(uint8_t *bytes, size_t r, int kind, size_t a, size_t b)
+/* A step under stars, p and a diamond, so many records: p in the end. */
+static struct bytes stars(int records)
 {
-    memcpy(bytes + PASTUREQUILL_RECORD_SIZE * r, (const uint8_t[]){R(kind, a, b)}, PASTUREQUILL_RECORD_SIZE);
-}
-
-/* A step under so many stars, then p and a diamond: p in the end. */
-static struct bytes stars(uint8_t *bytes, size_t records)
-{
-    put(bytes, 0, PASTUREQUILL_STEP, 0, 0);
-    for (size_t r = 1; r < records - 2; r++)
-        put(bytes, r, PASTUREQUILL_STAR, r - 1, 0);
-    put(bytes, records - 2, PASTUREQUILL_ATOM, 0, 0);
-    put(bytes, records - 1, PASTUREQUILL_DIAMOND, records - 3, records - 2);
-    return (struct bytes){bytes, PASTUREQUILL_RECORD_SIZE * records};
+    records_built = 0;
+    add_stars(records, PASTUREQUILL_ATOM);
+    return all_built();
 }
 
 /* Not, so many times, of p next: each not is three records, one test inside the other. */
-static struct bytes nots(uint8_t *bytes, size_t times)
+static struct bytes nots(int times)
 {
-    put(bytes, 0, PASTUREQUILL_STEP, 0, 0);
-    put(bytes, 1, PASTUREQUILL_ATOM, 0, 0);
-    put(bytes, 2, PASTUREQUILL_DIAMOND, 0, 1);
-    for (size_t i = 0, r = 3; i < times; i++, r += 3) {
-        put(bytes, r, PASTUREQUILL_TEST, r - 1, 0);
-        put(bytes, r + 1, PASTUREQUILL_FALSE, 0, 0);
-        put(bytes, r + 2, PASTUREQUILL_BOX, r, r + 1);
+    records_built = 0;
+    int step = add(PASTUREQUILL_STEP, 0, 0), p = add(PASTUREQUILL_ATOM, 0, 0);
+    int f = add(PASTUREQUILL_DIAMOND, step, p);
+    for (int i = 0; i < times; i++) {
+        int test = add(PASTUREQUILL_TEST, f, 0), end = add(PASTUREQUILL_FALSE, 0, 0);
+        f = add(PASTUREQUILL_BOX, test, end);
     }
-    return (struct bytes){bytes, PASTUREQUILL_RECORD_SIZE * (3 + 3 * times)};
+    return all_built();
 }
 
 static void greatest_sizes(void)
 {
-    static uint8_t bytes[6 * 256 + 1], cells[32 * 32], values[32];
+    static uint8_t cells[32 * 32], values[32];
     struct bytes most = {cells, 32}, row = {values, 32};
-    static const uint8_t until[] = {ATOM(0), TEST(0), STEP, SEQUENCE(1, 2), STAR(3), ATOM(1), DIAMOND(4, 5)};
 
     /* O: 255 records are taken, 256 are not. p is assumed at the last of 32 instants, so it is assumed from all. */
     cells[31] = 1;
     memset(values, 1, sizeof values);
-    expect_values("O: 255 records at 32 instants", stars(bytes, 255), 1, 32, most, row);
-    expect_refused("255 records, a byte of room too little", stars(bytes, 255), 1, 32, most, 255 * 32 - 1, 10);
-    expect_refused("O: 256 records", stars(bytes, 256), 1, 32, most, 256 * 32, 1);
-    struct bytes longer = stars(bytes, 255);
+    expect_values("O: 255 records at 32 instants", stars(255), 1, 32, most, row);
+    expect_refused("255 records, a byte of room too little", stars(255), 1, 32, most, 255 * 32 - 1, 10);
+    expect_refused("O: 256 records", stars(256), 1, 32, most, 256 * 32, 1);
+    struct bytes longer = stars(255);
     longer.size++;
     expect_refused("255 records and a byte", longer, 1, 32, most, 256 * 32, 1);
 
@@ -379,7 +369,7 @@ static void greatest_sizes(void)
         cells[k] = k % 3;
     for (size_t k = 0; k < 32; k++)
         values[k] = k < 31 && cells[k + 1] != 0 ? 2 : 0;
-    expect_values("255 records, 84 tests inside each other", nots(bytes, 84), 1, 32, most, row);
+    expect_values("255 records, 84 tests inside each other", nots(84), 1, 32, most, row);
 
     /* O: 32 instants are taken, and 33 are not, though the cells fit. p until q, where p is only assumed at instant 15. */
     for (size_t k = 0; k < 33; k++) {
@@ -388,8 +378,8 @@ static void greatest_sizes(void)
     }
     for (size_t k = 0; k < 32; k++)
         values[k] = k <= 15 ? 1 : 2;
-    expect_values("O: 32 instants", (struct bytes){until, sizeof until}, 2, 32, (struct bytes){cells, 64}, row);
-    expect_refused("O: 33 instants", (struct bytes){until, sizeof until}, 2, 33, (struct bytes){cells, 66}, 7 * 33, 8);
+    expect_values("O: 32 instants", (struct bytes)UNTIL, 2, 32, (struct bytes){cells, 64}, row);
+    expect_refused("O: 33 instants", (struct bytes)UNTIL, 2, 33, (struct bytes){cells, 66}, 7 * 33, 8);
 
     /* 32 atoms at 32 instants: the last atom has the last cell of each row. Any one cell of 3 is refused. */
     for (size_t k = 0; k < 32; k++)
