@@ -5,18 +5,13 @@
 #include "counts.h"
 #include "guarded.h"
 #include "pasturequill.h"
+#include "rules.h"
 #include "slices.h"
 
-enum { RULE_SIZE = 6, MOST_RULES = 1021, MOST_WIDTH = 287, MOST_INSTANTS = 32 };
+enum { MOST_RULES = 1021, MOST_WIDTH = 287, MOST_INSTANTS = 32 };
 
-/* Places. */
-enum { EVERY, FIRST, LATER, LAST };
-
-/* Literals: the constants, the columns from the first, and the two marks. */
-enum { NO, YES, P, Q, R, PREVIOUS = 16384, NOT = 32768 };
-
-/* A rule with one word in its body and one in its head, the others unused. */
-#define ARROW(place, body, head) place, body, YES, head, NO, NO
+/* The third column. */
+enum { R = Q + 1 };
 
 /* ---- the call */
 static void compare(const char *reason, pasturequill_judged got, pasturequill_judged expected)

@@ -6,20 +6,15 @@
 #include "built.h"
 #include "faults.h"
 #include "room.h"
+#include "rules.h"
 
-enum { RULE_SIZE = 6, MOST_RECORDS = 255, MOST_WORDS = 6126 };
-
-/* Places. */
-enum { EVERY, FIRST, LATER, LAST };
-
-/* Literals: the constants, both atoms where there are two, and the two marks. */
-enum { NO, YES, P, Q, PREVIOUS = 16384, NOT = 32768 };
+enum { MOST_RECORDS = 255, MOST_WORDS = 6126 };
 
 /* The label of record r where there are two atoms. */
 #define X(r) (4 + (r))
 
-/* A rule with one word in its body and one in its head, the others unused. */
-#define ARROW(place, u, v) place, u, YES, v, NO, NO
+/* The rules of a record by what it says: that it is the same as another, the smaller or the greater of two, or an implication; and the last
+ * rule, that asserts the whole. */
 #define SAME(place, u, v) ARROW(place, u, v), ARROW(place, v, u)
 #define SMALLER(x, u, v) ARROW(EVERY, x, u), ARROW(EVERY, x, v), EVERY, u, v, x, NO, NO
 #define GREATER(x, u, v) EVERY, x, YES, u, v, NO, ARROW(EVERY, u, x), ARROW(EVERY, v, x)
