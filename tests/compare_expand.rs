@@ -204,13 +204,8 @@ fn is_shorthand(kind: u8) -> bool {
     (NOT..=SINCE).contains(&kind)
 }
 
-/// The shorthands with as many arguments as this one.
-fn alike(kind: u8) -> &'static [u8] {
-    match kind {
-        FINAL | INITIAL => &[FINAL, INITIAL],
-        AND | OR | IMPLIES | UNTIL | SINCE => &[AND, OR, IMPLIES, UNTIL, SINCE],
-        _ => &[NOT, NEXT, WEAK_NEXT, PREVIOUSLY, WEAK_PREVIOUSLY, EVENTUALLY, ALWAYS, ONCE, SO_FAR],
-    }
+fn arguments(shorthand: u8) -> usize {
+    SHORTHANDS.iter().position(|kinds| kinds.contains(&shorthand)).expect("each shorthand is among them")
 }
 
 /// One kind of harm to a shorthand, which may or may not make it wrong.
@@ -223,9 +218,9 @@ fn damage_shorthand(random: &mut Random, formula: &mut Formula) {
     let (kind, a, b) = (formula.kind(r), formula.a(r), formula.b(r));
     let other = if r == 0 { 0 } else { random.below(r) };
     let changed = match random.below(6) {
-        0 | 1 => record(random.pick(alike(kind)), a, b),
+        0 | 1 => record(random.pick(SHORTHANDS[arguments(kind)]), a, b),
         2 => record(random.between(NOT as usize, SINCE as usize) as u8, a, b),
-        3 => record(random.pick(alike(AND)), a, if b == 0 { other } else { b }),
+        3 => record(random.pick(SHORTHANDS[2]), a, if b == 0 { other } else { b }),
         4 => record(kind, random.pick(&[other, r, r + 1, a + 256]), b),
         _ => record(kind, a, random.pick(&[other, a, r, b + 256])),
     };
@@ -303,13 +298,13 @@ fn unsettled(core: &[u8], atoms: u64) -> Option<String> {
 
 // ---- the run
 
-const SHORTHANDS: [&str; 16] = [
+const NAMES: [&str; 16] = [
     "not", "and", "or", "implies", "final", "initial", "next", "weak next", "previous", "weak previous", "eventually", "always", "once",
     "so far", "until", "since",
 ];
 
 fn shorthand_name(kind: u8) -> String {
-    SHORTHANDS[(kind - NOT) as usize].to_string()
+    NAMES[(kind - NOT) as usize].to_string()
 }
 
 /// A shorthand as an argument of another one.
@@ -319,11 +314,6 @@ fn nested(outer: u8, field: usize, inner: u8) -> String {
 
 /// Each shorthand in each argument of each.
 fn nested_names() -> Vec<String> {
-    let arguments = |kind: u8| match alike(kind)[0] {
-        FINAL => 0,
-        AND => 2,
-        _ => 1,
-    };
     let places = (NOT..=SINCE).flat_map(|outer| (0..arguments(outer)).map(move |field| (outer, field)));
     places.flat_map(|(outer, field)| (NOT..=SINCE).map(move |inner| nested(outer, field, inner))).collect()
 }

@@ -35,6 +35,13 @@ pub const SO_FAR: u8 = 45;
 pub const UNTIL: u8 = 46;
 pub const SINCE: u8 = 47;
 
+/// The shorthands by how many arguments they have.
+pub const SHORTHANDS: [&[u8]; 3] = [
+    &[FINAL, INITIAL],
+    &[NOT, NEXT, WEAK_NEXT, PREVIOUSLY, WEAK_PREVIOUSLY, EVENTUALLY, ALWAYS, ONCE, SO_FAR],
+    &[AND, OR, IMPLIES, UNTIL, SINCE],
+];
+
 /// Records, of a formula or not, how many atoms there are, and whether they are for a service that takes shorthands.
 pub struct Formula {
     pub records: Vec<u8>,
@@ -262,15 +269,15 @@ impl Grower<'_> {
     /// A formula of so many records, the last of them a shorthand.
     fn shorthand(&mut self, size: usize) -> usize {
         if size == 1 {
-            let kind = self.random.pick(&[FINAL, INITIAL]);
+            let kind = self.random.pick(SHORTHANDS[0]);
             return self.add(kind, 0, vec![]);
         }
         if size == 2 || self.random.percent(50) {
-            let kind = self.random.pick(&[NOT, NEXT, WEAK_NEXT, PREVIOUSLY, WEAK_PREVIOUSLY, EVENTUALLY, ALWAYS, ONCE, SO_FAR]);
+            let kind = self.random.pick(SHORTHANDS[1]);
             let argument = self.formula(size - 1);
             return self.add(kind, 0, vec![argument]);
         }
-        let kind = self.random.pick(&[AND, OR, IMPLIES, UNTIL, SINCE]);
+        let kind = self.random.pick(SHORTHANDS[2]);
         let (first, second) = self.parts(size - 1);
         let (f, g) = (self.formula(first), self.formula(second));
         self.add(kind, 0, vec![f, g])
