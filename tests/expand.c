@@ -28,6 +28,8 @@ enum { MOST_RECORDS = 255, MOST_BYTES = 6 * MOST_RECORDS };
 #define SINCE(f, g) R(47, f, g)
 
 /* ---- the call */
+static const struct bytes nothing = NONE;
+
 /* Compares an outcome: on a refusal all bytes stay; else the core's bytes stand at their start, if they are known, and the rest stays. */
 static void compare(const char *reason, pasturequill_counted got, const uint8_t *out, size_t room, int refusal, struct bytes core)
 {
@@ -61,7 +63,6 @@ static void expect_settled(const char *reason, struct bytes records, uint64_t at
 /* An accepted formula in room that is exact, longer, shorter by a byte or a record, and none. The core's bytes may be unknown. */
 static void expect_core(const char *reason, struct bytes records, uint64_t atoms, struct bytes core)
 {
-    const struct bytes nothing = NONE;
     expect(reason, records, atoms, core.size, 0, core);
     expect(reason, records, atoms, core.size + 1, 0, core);
     expect(reason, records, atoms, core.size + 40, 0, core);
@@ -74,7 +75,6 @@ static void expect_core(const char *reason, struct bytes records, uint64_t atoms
 /* A refused formula, whatever the room. */
 static void expect_refusal(const char *reason, struct bytes records, uint64_t atoms, int refusal)
 {
-    const struct bytes nothing = NONE;
     expect(reason, records, atoms, 0, refusal, nothing);
     expect(reason, records, atoms, MOST_BYTES, refusal, nothing);
     expect(reason, records, atoms, 4 * MOST_BYTES, refusal, nothing);
@@ -308,10 +308,8 @@ static void one_set(int length, int atoms, int first, int second, int last, int 
     uint8_t bytes[RECORDS * 6 + 1] = {TRUE_, TRUE_, TRUE_, AND(0, 1), AND(3, 2)}, out[MOST_BYTES + 20];
     for (int r = 5; r < RECORDS; r++)
         memcpy(bytes + 6 * r, (const uint8_t[]){NEXT(r - 1)}, 6);
-    if (first)
-        put_fault(bytes + 6 * 1, first, 1);
-    if (second)
-        put_fault(bytes + 6 * 2, second, 2);
+    put_fault(bytes + 6 * 1, first, 1);
+    put_fault(bytes + 6 * 2, second, 2);
     if (tree)
         memcpy(bytes + 6 * 3, (const uint8_t[]){AND(0, 0)}, 6);
     if (longer)
@@ -493,7 +491,6 @@ static void most_records_in(void)
 static void no_addresses(void)
 {
     static const uint8_t records[] = {FINAL};
-    const struct bytes nothing = NONE;
     compare("no address for no records", pasturequill_expand(NULL, 0, 0, NULL, 0), NULL, 0, 1, nothing);
     compare("no address for no records, and 33 atoms", pasturequill_expand(NULL, 0, 33, NULL, 0), NULL, 0, 1, nothing);
     compare("no address for no room", pasturequill_expand(records, sizeof records, 0, NULL, 0), NULL, 0, 10, nothing);

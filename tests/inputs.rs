@@ -1,5 +1,4 @@
-//! What all comparisons share: random numbers from a fixed seed, harm to an input, slices with other memory around them, bytes
-//! in print.
+//! What all comparisons share: random numbers from a fixed seed, harm to an input, slices with other memory around them, bytes in print.
 
 use std::fmt::Display;
 

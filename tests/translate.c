@@ -22,6 +22,8 @@ enum { MOST_RECORDS = 255, MOST_WORDS = 6126 };
     EVERY, x, u, v, NO, NO, ARROW(EVERY, NOT + (u), x), ARROW(EVERY, v, x), EVERY, YES, YES, x, u, NOT + (v)
 #define WHOLE(x) ARROW(FIRST, YES, x)
 
+static const struct words nothing = NONE;
+
 /* Compares an outcome: on a refusal all words stay; else the rules' words stand at their start, if they are known, and the rest stays. */
 static void compare(const char *reason, pasturequill_counted got, const uint16_t *words, size_t room, int refusal, struct words rules)
 {
@@ -44,7 +46,6 @@ static void expect(const char *reason, struct bytes records, uint64_t atoms, siz
 /* An accepted formula in room that is exact, longer, shorter by a word or a rule, and none. The rules' words may be unknown. */
 static void expect_rules(const char *reason, struct bytes records, uint64_t atoms, struct words rules)
 {
-    const struct words nothing = NONE;
     size_t n = records.size / PASTUREQUILL_RECORD_SIZE, most = RULE_SIZE * (4 * n + 1);
     count(rules.size <= most, reason, "more words than four rules a record and one have:", rules.size, most);
     expect(reason, records, atoms, rules.size, 0, rules);
@@ -58,7 +59,6 @@ static void expect_rules(const char *reason, struct bytes records, uint64_t atom
 /* A refused formula, whatever the room. */
 static void expect_refusal(const char *reason, struct bytes records, uint64_t atoms, int refusal)
 {
-    const struct words nothing = NONE;
     expect(reason, records, atoms, 0, refusal, nothing);
     expect(reason, records, atoms, MOST_WORDS, refusal, nothing);
 }
@@ -295,10 +295,8 @@ static void one_set(int length, int atoms, int first, int second, int last, int 
     uint8_t bytes[12 * 6 + 1] = {
         TRUE_, TRUE_, TRUE_, TEST(0), STEP, STEP, R(joint, 3, 4), R(joint, 6, 5), STAR(7), TEST(1), SEQUENCE(8, 9), DIAMOND(10, 2),
     };
-    if (first)
-        put_fault(bytes + 6 * 1, first, 1);
-    if (second)
-        put_fault(bytes + 6 * 2, second, 2);
+    put_fault(bytes + 6 * 1, first, 1);
+    put_fault(bytes + 6 * 2, second, 2);
     if (turns)
         bytes[6 * 5] = PASTUREQUILL_BACK;
     if (tree)
@@ -494,7 +492,6 @@ static void no_addresses(void)
 {
     static const uint8_t records[] = {TRUE_};
     static const uint8_t still[] = {TRUE_, TEST(0), STAR(1), TRUE_, DIAMOND(2, 3)};
-    const struct words nothing = NONE;
     compare("no address for no records", pasturequill_translate(NULL, 0, 0, NULL, 0), NULL, 0, 1, nothing);
     compare("no address for no records, and 33 atoms", pasturequill_translate(NULL, 0, 33, NULL, 0), NULL, 0, 1, nothing);
     compare("no address for no room", pasturequill_translate(records, sizeof records, 0, NULL, 0), NULL, 0, 10, nothing);

@@ -41,8 +41,8 @@ static void expect_table(const char *reason, struct bytes records, uint64_t atom
 }
 
 /* One call at each edge: on a refusal the value is 0 and the table stays. */
-static void expect(const char *reason, struct bytes records, uint64_t atoms, uint64_t instants, struct bytes cells, size_t room, int refusal,
-                   struct bytes values)
+static void expect(const char *reason, struct bytes records, uint64_t atoms, uint64_t instants, struct bytes cells, size_t room,
+                   int refusal, struct bytes values)
 {
     for (int edge = GUARDED_AT_END; edge <= GUARDED_AT_START; edge++) {
         uint8_t *table = guarded_fresh(room, edge), value = refusal ? 0 : values.at[values.size - (size_t)instants];
