@@ -10,12 +10,12 @@ use borrow.Author.Tests.{lt-ltb, le-ltb}
 use Rattle.meaning.specs.Record.{Sort, Use, unused, atomNumber, child, useA, useB, kindOf, kindAt, fieldA, fieldB, recordBytes, mostRecords, sortOf}
 use Rattle.meaning.specs.Tree.{treeAt}
 use Rattle.meaning.specs.WellFormed.{Fits}
+use Rattle.meaning.proofs.Fails.{and-holds}
 use Rattle.meaning.proofs.Nodes.{tree-of}
 use Rattle.expand.specs.Steps.{stepsOf, fieldFrom, fieldSize, children, ownA, ownB, partOf, partUse, stepFrom, stepSize}
 use Rattle.expand.specs.Asking.{Asked, bytesAt, sizeAt, stepBytes, stepCount, isChild, isAtom, fits}
 use Rattle.expand.proofs.Stepping.{stepsFrom, node-from}
 use Rattle.expand.proofs.Sized.{stepsSize, node-size}
-use Rattle.expand.proofs.Row.{both-true}
 
 is-child : (u : Use) → isChild u ≡ true → (σ : Sort) × (u ≡ child σ)
 unfolding isChild
@@ -58,7 +58,7 @@ module _ {s : List ℕ} {r : ℕ} (w : Asked s r) where
     module _ (part : 14 ≤ d) where
       held : (σ : Sort) × (partUse (kindAt s r) d ≡ child σ)
       unfolding fits
-      held = is-child _ (both-true (ltb d 16) _ (rw (le-ltb d 14 part) at f) .1)
+      held = is-child _ (and-holds (ltb d 16) _ .0 (rw (le-ltb d 14 part) at f) .1)
 
       field-fits : Fits s (w .atoms) r (partUse (kindAt s r) d) q
       unfolding partUse partOf

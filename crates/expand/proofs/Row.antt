@@ -2,7 +2,7 @@
 -- left is 1. Every step of a kind's row fits the kind.
 use Prim.Native.Nat.{ℕ, _/_, _%_, _<_}
 use mathlib.Core.Path.{_≡_, refl, sym, _∙_}
-use mathlib.Core.Bool.{Bool, true, false, _&&_, true≢false}
+use mathlib.Core.Bool.{Bool, true, false, _&&_}
 use mathlib.Core.List.{List, [], _∷_}
 use native.Mathlib.Omega.{arith}
 use lib.Dec.{ltb}
@@ -10,13 +10,10 @@ use borrow.Author.Tests.{ltb-true}
 use Rattle.meaning.specs.Record.{Kind, kinds, kindOf, useA, useB, argumentA, argumentB}
 use Rattle.meaning.specs.Shorthand.{expansion}
 use Rattle.meaning.specs.Tree.{modalNumber, moveNumber}
+use Rattle.meaning.proofs.Fails.{and-holds}
 use Rattle.records.proofs.Kind.{onward}
 use Rattle.expand.specs.Steps.{formSteps, pathSteps, stepsOf, digits, rowOf, partUse}
 use Rattle.expand.specs.Asking.{isChild, isAtom, fits}
-
-pub both-true : (a b : Bool) → (a && b) ≡ true → (a ≡ true) × (b ≡ true)
-both-true true b e = (refl, e)
-both-true false b e = absurd (true≢false (sym e))
 
 -- Every step of the list fits the kind.
 unfoldable pub allFit : Kind → List ℕ → Bool
@@ -35,7 +32,7 @@ fits-digit K d = go (ltb d 14) refl
   where
     go : (own : Bool) → ltb d 14 ≡ own → fits K d ≡ true → d < 16
     go true e h = omega (arith, ltb-true d 14 e)
-    go false e h = ltb-true d 16 (both-true (ltb d 16) _ (rw e at h) .0)
+    go false e h = ltb-true d 16 (and-holds (ltb d 16) _ .0 (rw e at h) .0)
 
 positive : (ds : List ℕ) → 0 < digits ds
 unfolding digits
@@ -72,7 +69,7 @@ read-row : {K : Kind} {rest : ℕ} (ds : List ℕ) → rest ≡ digits ds → al
 unfolding digits allFit
 read-row [] e h n = absurd (n e)
 read-row {K} {rest} (d ∷ ds) e h n =
-    let (f, g) = both-true (fits K d) (allFit K ds) h in
+    let (f, g) = and-holds (fits K d) (allFit K ds) .0 h in
     let low = fits-digit K d f in
     let digit : d ≡ rest % 16 = omega arith in
     record {

@@ -1,12 +1,17 @@
--- Where a test fails: a plain fact for each, so that a ground that does not apply becomes what it says by `simp tests`.
+-- Where a test holds or fails: a plain fact for each, so that a ground that does not apply becomes what it says by `simp tests`.
 use Prim.Native.Nat.{ℕ, _<_}
-use mathlib.Core.Path.{_≡_, refl}
-use mathlib.Core.Bool.{Bool, true, false, not, _||_, true≢false}
+use mathlib.Core.Path.{_≡_, refl, sym}
+use mathlib.Core.Bool.{Bool, true, false, not, _&&_, _||_, true≢false}
 use mathlib.Core.Logic.{_≢_, _↔_}
 use lib.Dec.{leb, eqb}
 use borrow.Author.Tests.{leb-false, eqb-true, eqb-false, not-false, lt-leb, eq-eqb, ne-eqb}
 use Rattle.meaning.specs.Record.{Sort, formula, path}
 use Rattle.meaning.specs.Refusal.{differ}
+
+-- Both of two.
+pub and-holds : (a b : Bool) → ((a && b) ≡ true) ↔ ((a ≡ true) × (b ≡ true))
+and-holds true b = (λ e. (refl, e), λ p. p .1)
+and-holds false b = (λ e. absurd (true≢false (sym e)), λ p. p .0)
 
 -- Neither of two.
 pub or-fails : (a b : Bool) → ((a || b) ≡ false) ↔ ((a ≡ false) × (b ≡ false))

@@ -2,7 +2,7 @@
 -- sequence has the second path's values, but no more than that: no square for the test is needed.
 use Prim.Native.Nat.{ℕ, _*_, _≤_}
 use mathlib.Core.Path.{_≡_, refl, sym, subst, _∙_}
-use mathlib.Core.Bool.{Bool, true, false, _&&_, true≢false}
+use mathlib.Core.Bool.{Bool, true, _&&_}
 use mathlib.Core.List.{List}
 use native.Mathlib.Nat.{le-trans, le-min, le-antisymm}
 use native.Mathlib.Omega.{arith}
@@ -11,6 +11,7 @@ use borrow.Author.Tests.{eqb-true}
 use Rattle.meaning.specs.Record.{kindAt, kindByte, fieldA, fieldB, path, sortOf}
 use Rattle.meaning.specs.Value.{Row, Square, testSquare, sequenceSquare}
 use Rattle.meaning.proofs.Bounds.{le-above}
+use Rattle.meaning.proofs.Fails.{and-holds}
 use Rattle.meaning.proofs.Reach.{only-there, value-there, there-bound, sequence-elim, sequence-intro}
 use Rattle.records.proofs.Held.{test-first, path-first}
 use Rattle.value.specs.Cells.{at, rowAt, Holds, capped, joinOf}
@@ -21,12 +22,9 @@ use Rattle.value.proofs.Recursion.{test-valued, test-agrees, join-done}
 
 -- What the question for such a sequence says: x is its kind, y its first part's.
 pub begins : {x y : ℕ} {b : Bool} → b ≡ (eqb x 9 && eqb y 7) → b ≡ true → (x ≡ 9) × (y ≡ 7)
-begins {x} {y} e t = go (eqb x 9) refl (eqb y 7) refl (sym e ∙ t)
-  where
-    go : (c : Bool) → eqb x 9 ≡ c → (d : Bool) → eqb y 7 ≡ d → (c && d) ≡ true → (x ≡ 9) × (y ≡ 7)
-    go true f true g h = (eqb-true x 9 f, eqb-true y 7 g)
-    go true f false g h = absurd (true≢false (sym h))
-    go false f d g h = absurd (true≢false (sym h))
+begins {x} {y} e t =
+    let (f, g) = and-holds (eqb x 9) (eqb y 7) .0 (sym e ∙ t) in
+    (eqb-true x 9 f, eqb-true y 7 g)
 
 -- ---- values
 capped-sequence : (L : ℕ) (f : Row) (q : Square) → Agree L (capped f q) (sequenceSquare L (testSquare f) q)
