@@ -22,7 +22,10 @@ pub struct Judged {
 
 // The first refusal that applies; or yes; or the first rule that fails, and its first failing instant.
 pub fn judge(rules: &[u16], width: u64, instants: u64, cells: &[u8]) -> Judged
-    ensures { λ v. ⌜ Gives (v .refusal) (v .holds) (v .rule) (v .instant) (judgeAnswer (now (rules .entry)) width instants (now (cells .entry))) ⌝ }
+    ensures refusal { λ v. ⌜ v .refusal ≡ judgeAnswer (now (rules .entry)) width instants (now (cells .entry)) .refusal ⌝ }
+    ensures holds { λ v. ⌜ v .holds ≡ judgeAnswer (now (rules .entry)) width instants (now (cells .entry)) .holds ⌝ }
+    ensures rule { λ v. ⌜ v .rule ≡ judgeAnswer (now (rules .entry)) width instants (now (cells .entry)) .rule ⌝ }
+    ensures instant { λ v. ⌜ v .instant ≡ judgeAnswer (now (rules .entry)) width instants (now (cells .entry)) .instant ⌝ }
 {
     let refusal = first_refusal(rules, width, instants, cells);
     if refusal != 0 {

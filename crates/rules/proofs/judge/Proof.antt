@@ -15,7 +15,7 @@ unfolding judgeAnswer
 returns c =
     let e = c .before .first-refusal .ensures in
     let n = ne-eqb _ _ (λ z. c .if1 .taken (e ∙ z)) in
-    rw n record { refused = e; held = refl; failing = refl; failed = refl }
+    rw n (e, (refl, (refl, refl)))
 
 first-failure-requires : tie.Need-first-failure-requires
 first-failure-requires c κs = filled _ _ _ _ (sym (c .before .first-refusal .ensures) ∙ c .if1 .left)
@@ -24,7 +24,9 @@ returns-2 : tie.Need-returns-2
 unfolding judgeAnswer
 returns-2 c =
     let else = c .before in
-    rw (eq-eqb _ _ (sym (else .before .first-refusal .ensures) ∙ else .if1 .left)) (c .first-failure .ensures)
+    let told = c .first-failure .ensures in
+    rw (eq-eqb _ _ (sym (else .before .first-refusal .ensures) ∙ else .if1 .left))
+    (told .refused, (told .held, (told .failing, told .failed)))
 
 pub judge-spec : {M : Type 1} → statement M
 judge-spec = tie.close (tie.spec first-refusal-requires returns first-failure-requires returns-2)

@@ -15,7 +15,7 @@ unfolding valueAnswer valueAfter
 returns c =
     let e = c .before .first-refusal .ensures in
     let n = ne-eqb _ _ (λ z. c .if1 .taken (e ∙ z)) in
-    (e, rw n, rw n)
+    (e, (rw n, rw n))
 
 fill-requires : tie.Need-fill-requires
 fill-requires c κs = legal _ _ _ _ _ (sym (c .before .before .first-refusal .ensures) ∙ c .before .if1 .left)
@@ -30,7 +30,7 @@ returns-2 c =
     let z = sym (else .before .first-refusal .ensures) ∙ else .if1 .left in
     let n = eq-eqb _ _ z in
     let f = c .before .before .fill .ensures in
-    (sym z, rw n (f .0), rw n (f .1))
+    (sym z, (rw n (f .0), rw n (f .1)))
 
 pub value-spec : {M : Type 1} → statement M
 value-spec =
