@@ -1,14 +1,14 @@
--- Rules written one record after another. The words of rules end to end are the words of each, six a rule; so rows
--- pasted behind the rules of the records so far give the rules of one record more.
+-- Rules written one after another. The words of rules end to end are the words of each, six a rule; so rules put behind
+-- rules are one list of rules that was put. So follow the rows of a record, and so the rules of the records.
 use Prim.Native.Nat.{ℕ, zero, suc, pred, _+_, _*_, _<_, _≤_}
-use mathlib.Core.Path.{_≡_, refl, sym, ap, _∙_}
-use mathlib.Core.List.{List, [], _∷_, _++_}
+use mathlib.Core.Path.{_≡_, refl, ap, _∙_}
+use mathlib.Core.List.{List, [], _∷_, _++_, map-append}
 use mathlib.Core.Logic.{inl, inr}
-use native.Mathlib.Nat.{le-refl}
+use native.Mathlib.Nat.{le-refl, zero-add, add-zero, add-suc, suc-add}
 use native.Mathlib.Numerals.{add-one}
 use native.Mathlib.Omega.{arith}
-use lib.ListN.{length, take, drop, getD, length-append, length-take, length-drop}
-use lib.Seq.{take-append-seam, drop-append-add, drop-drop}
+use lib.ListN.{length, take, set, getD, length-append, length-map, length-take}
+use lib.Seq.{length-take-le, take-suc, sets, length-sets, sets-eq}
 use Rattle.meaning.specs.Run.{each, written}
 use Rattle.meaning.specs.Record.{count, kindAt}
 use Rattle.meaning.specs.Rule.{Rule, rule, ruleSize, words}
@@ -17,7 +17,9 @@ use Rattle.meaning.proofs.Bounds.{below-suc}
 use Rattle.meaning.proofs.RuleCount.{words-length}
 use Rattle.records.specs.Code.{modeOf}
 use Rattle.translate.specs.Contexts.{Moded}
-use Rattle.translate.specs.Rows.{Rowed, Pasted}
+use Rattle.translate.specs.Rows.{Rowed, Put, ruleOf, rulesIn}
+use Rattle.translate.specs.declared.row.Row.{Row}
+use Rattle.translate.specs.declared.row.Rows.{Rows}
 use Rattle.translate.proofs.Rowing.{record-counts}
 
 -- ---- words
@@ -39,46 +41,53 @@ module _ {T : Type 0} (f : ℕ → List T) where
       elim (below-suc l)
       [ inl e ↦ rw e (le-refl _) | inr m ↦ omega (arith, each-grows n r m, length-append (each n f) (f n)) ]
 
--- There are as many words as the rules have.
-pub rowed-long : {ws : List ℕ} {n : ℕ} {ρs : List Rule} → Rowed ws n ρs → ruleSize * n ≤ length ws
-rowed-long {ws} {n} {ρs} w =
-    omega (arith, length-take (ruleSize * n) ws, ap length (w .written), words-length ρs, w .counted)
+-- ---- rules put behind rules
+sets-append : (xs ys l : List ℕ) (i : ℕ) → sets (sets l i xs) (i + length xs) ys ≡ sets l i (xs ++ ys)
+sets-append [] ys l i = rw add-zero
+sets-append (x ∷ xs) ys l i = rw (add-suc, ← suc-add) (sets-append xs ys (set l i x) (suc i))
 
--- The rules ρs stand in `out` from its start on, the rest is as in `old`, and `at` is the place behind them.
-pub record Begun (ρs : List Rule) (old out : List ℕ) (at : ℕ) : Type 0 where
-  pub place : at ≡ ruleSize * length ρs
-  pub whole : out ≡ written (words ρs) old
+pub put-none : (at : ℕ) (old : List ℕ) → Put old at [] at old
+unfolding words
+put-none at old = record { place = omega arith; whole = refl }
 
-pub begun-none : {old : List ℕ} (f : ℕ → List Rule) → Begun (each 0 f) old old 0
-unfolding each words written
-begun-none f = record { place = refl; whole = refl }
+module _ {old mid : List ℕ} {at e : ℕ} {ρs : List Rule} (p : Put old at ρs e mid) where
+  pub put-length : length mid ≡ length old
+  put-length = ap length (p .whole) ∙ length-sets old at (words ρs)
 
-module _ {ρs : List Rule} {old out : List ℕ} {at : ℕ} (b : Begun ρs old out at) where
-  pub begun-length : ruleSize * length ρs ≤ length old → length out ≡ length old
-  unfolding written
-  begun-length h = rw (b .whole) (simp (length-append, length-drop, words-length) (omega arith))
-
-  pub begun-more : {σs : List Rule} {ws new : List ℕ} {n e : ℕ} → Rowed ws n σs → Pasted out at ws n e new
-      → Begun (ρs ++ σs) old new e
-  unfolding written
-  begun-more {σs} {ws} {new} {n} {e} w p =
-      let size : length (words ρs) ≡ at = words-length ρs ∙ sym (b .place) in
-      let front : take at out ≡ words ρs = rw (← size, b .whole) (take-append-seam (words ρs) _) in
-      let end : length (words ρs) + ruleSize * n ≡ length (words (ρs ++ σs)) =
-      simp (words-length, length-append) (omega (arith, w .counted)) in
-      let behind : drop (at + ruleSize * n) out ≡ drop (length (words (ρs ++ σs))) old =
-      rw (← size, b .whole, ← end) (drop-append-add (words ρs) _ (ruleSize * n) ∙ drop-drop (ruleSize * n) _ old) in
+  pub put-more : {new : List ℕ} {f : ℕ} {σs : List Rule} → Put mid e σs f new → Put old at (ρs ++ σs) f new
+  put-more {new} {f} {σs} q =
+      let end : e ≡ at + length (words ρs) = omega (arith, p .place, words-length ρs) in
       record {
-        place = rw length-append (omega (arith, p .place, b .place, w .counted));
-        whole = p .whole ∙ rw (front, w .written, behind, words-append ρs σs);
+        place = rw length-append (omega (arith, p .place, q .place));
+        whole = q .whole ∙ rw (end, p .whole, words-append ρs σs) (sets-append (words ρs) (words σs) old at);
       }
 
-  -- There is room for the rows.
-  pub begun-room : {σs : List Rule} {ws : List ℕ} {n : ℕ} → Rowed ws n σs → ruleSize * length (ρs ++ σs) ≤ length old
-      → at + ruleSize * n ≤ length out
-  begun-room {σs} w h =
-      let both = length-append ρs σs in
-      omega (arith, begun-length (omega arith), b .place, w .counted)
+-- ---- rows
+pub rules-length : (rows : List Row) (n : ℕ) → n ≤ length rows → length (rulesIn rows n) ≡ n
+rules-length rows n h = length-map (take n rows) ruleOf ∙ length-take-le n rows h
+
+-- One row more.
+pub rules-more : (rows : List Row) (i : ℕ) (row : Row) → i < length rows
+    → rulesIn rows (i + 1) ≡ rulesIn rows i ++ (ruleOf (getD rows i row) ∷ [])
+rules-more rows i row l = rw (add-one i, take-suc rows i row l) (map-append ruleOf (take i rows) _)
+
+module _ {r : Rows} {σs : List Rule} (w : Rowed r σs) where
+  -- There are as many rows as rules.
+  pub rowed-long : r .count ≤ length (r .rows)
+  rowed-long =
+      let n = r .count in
+      let rows = take n (r .rows) in
+      omega (arith, length-take n (r .rows), length-map rows ruleOf, ap length (w .held), w .counted)
+
+  module _ {old mid : List ℕ} {at : ℕ} {ρs : List Rule} (p : Put old 0 ρs at mid) where
+    -- There is room for the rows.
+    pub rowed-room : ruleSize * length (ρs ++ σs) ≤ length old → at + ruleSize * r .count ≤ length mid
+    rowed-room h = omega (arith, put-length p, p .place, length-append ρs σs, w .counted)
+
+    -- They follow.
+    pub rowed-more : {new : List ℕ} {e : ℕ} → Put mid at (rulesIn (r .rows) (r .count)) e new
+        → Put old 0 (ρs ++ σs) e new
+    rowed-more q = rw (w .held) at (put-more p q)
 
 -- ---- all records
 module _ (s : List ℕ) (A : ℕ) where
@@ -100,11 +109,14 @@ module _ (s : List ℕ) (A : ℕ) where
     room-last ρ = omega (arith, translation-length, with-last ρ)
 
 -- The last rule.
-pub begun-done : (s : List ℕ) (A : ℕ) {old out ws new : List ℕ} {at n e x : ℕ}
-    → Begun (before-last s A) old out at → x ≡ label A (pred (count s)) → Rowed ws n (rule 1 [] (x ∷ []) ∷ []) → Pasted out at ws n e new
+pub put-all : (s : List ℕ) (A : ℕ) {old new : List ℕ} {e x : ℕ} → ruleSize * length (translation s A) ≤ length old
+    → x ≡ label A (pred (count s)) → Put old 0 (before-last s A ++ (rule 1 [] (x ∷ []) ∷ [])) e new
     → new ≡ written (words (translation s A)) old
-unfolding translation
-begun-done s A b l w p = rw l at (begun-more b w p .whole)
+unfolding translation written
+put-all s A {old} fits l p =
+    let ws = words (translation s A) in
+    let room : 0 + length ws ≤ length old = omega (arith, words-length (translation s A)) in
+    rw l at (p .whole) ∙ rw zero-add at (sets-eq ws old 0 room)
 
 -- ---- how many
 -- So many rules come from the first r records, with the last rule.

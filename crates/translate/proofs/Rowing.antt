@@ -11,7 +11,7 @@ use lib.ListN.{length, getD}
 use Rattle.meaning.specs.Record.{Kind, constant, atom, modal, move, test, choice, sequence, star, shorthand, unknown}
 use Rattle.meaning.specs.Record.{Mode, diamond, box, formula, sortOf, kinds, kindOf}
 use Rattle.meaning.specs.Record.{Use, unused, atomNumber, child, useA, useB, count, kindAt, kindByte, fieldA, fieldB}
-use Rattle.meaning.specs.Rule.{words}
+use Rattle.meaning.specs.Rule.{rule}
 use Rattle.meaning.specs.Tree.{modalNumber}
 use Rattle.meaning.specs.Translation.{label, context, rulesOf, rulesAt, edgeRule, ruleNumber}
 use Rattle.meaning.proofs.RuleCount.{rules-counted}
@@ -71,14 +71,13 @@ three-rows n box l h p q =
       ]
     ]
 
--- The edge rule as the code has its words.
+-- The edge rule by the words that the code has for it.
 pub edge-words : (mode place x : ℕ)
-    → place ∷ edgeBody mode x ∷ 1 ∷ edgeHead mode x ∷ 0 ∷ 0 ∷ [] ≡ words (edgeRule (modeOf mode) place x ∷ [])
-unfolding edgeBody edgeHead modeOf edgeRule words
+    → rule place (edgeBody mode x ∷ []) (edgeHead mode x ∷ []) ≡ edgeRule (modeOf mode) place x
+unfolding edgeBody edgeHead modeOf edgeRule
 edge-words mode place x = go (eqb mode 3)
   where
-    go : (t : Bool)
-        → place ∷ cond t x 1 ∷ 1 ∷ cond t 0 x ∷ 0 ∷ 0 ∷ [] ≡ words (edgeRule (cond t diamond box) place x ∷ [])
+    go : (t : Bool) → rule place (cond t x 1 ∷ []) (cond t 0 x ∷ []) ≡ edgeRule (cond t diamond box) place x
     go true = refl
     go false = refl
 

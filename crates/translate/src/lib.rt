@@ -5,6 +5,7 @@ mod stars;
 
 ghost use mathlib.Core.Path.{_≡_};
 ghost use Prim.Native.Nat.{_*_, _+_, _<_, _≤_};
+ghost use mathlib.Core.List.{[], _∷_};
 ghost use lib.ListN.{length};
 ghost use Rattle.meaning.specs.Run.{written};
 ghost use Rattle.meaning.specs.Record.{count};
@@ -14,9 +15,13 @@ ghost use Rattle.meaning.specs.Refusal.{firstOf, starredGrounds};
 ghost use Rattle.meaning.specs.Service.{translateAnswer, translateAfter};
 ghost use Rattle.translate.specs.Asking.{Formed, Ready};
 ghost use Rattle.translate.specs.Contexts.{AllHanded, Moded};
-ghost use Rattle.translate.specs.Rows.{Rowed, Small, Pasted};
+ghost use Rattle.translate.specs.Rows.{Rowed, Small, Put, rulesIn, ruleOf};
 use records::layout;
+use row::Row;
 use row::Rows;
+
+// The words of a rule.
+const RULE_SIZE: usize = 6;
 
 // The refusal, or 0 and the number of rules.
 #[repr(C)]
@@ -39,7 +44,7 @@ pub fn translate(records: &[u8], atoms: u64, out: &mut [u16]) -> Counted
     let mut conts = [0u8; 255];
     context::find_contexts(records, &mut modes, &mut conts);
     let n = rule_count(records, &modes);
-    if out.len() < 6 * n {
+    if out.len() < RULE_SIZE * n {
         return Counted {
             refusal: 10,
             count: 0,
@@ -113,7 +118,7 @@ fn cont_label(atoms: usize, c: u8) -> u16
 // The rules of record r.
 fn record_rows(records: &[u8], atoms: usize, modes: &[u8; 255], conts: &[u8; 255], r: usize) -> Rows
     requires { ⌜ Ready (now records) atoms × AllHanded (now records) (now modes) (now conts) × (r < count (now records)) ⌝ }
-    ensures { λ w. ⌜ Rowed (w .words) (w .count) (rulesAt (now (records .entry)) atoms r) ⌝ }
+    ensures { λ w. ⌜ Rowed w (rulesAt (now (records .entry)) atoms r) ⌝ }
 {
     let kind = layout::kind_at(records, r);
     let a = layout::field_a(records, r);
@@ -129,17 +134,32 @@ fn record_rows(records: &[u8], atoms: usize, modes: &[u8; 255], conts: &[u8; 255
     )
 }
 
-// Copies the rows to the output at a place, and gives the place behind them.
+// Writes the rows to the output at a place, and gives the place behind them.
 fn put_rows(out: &mut [u16], at: usize, rows: Rows) -> usize
-    requires { ⌜ (rows .count ≤ 4) × (6 * rows .count ≤ length (rows .words)) × (at + 6 * rows .count ≤ length (now out)) ⌝ }
-    ensures { λ e. ⌜ Pasted (now (out .entry)) at (rows .words) (rows .count) e (now (out .exit)) ⌝ }
+    requires { ⌜ (rows .count ≤ 4) × (rows .count ≤ length (rows .rows)) × (at + ruleSize * rows .count ≤ length (now out)) ⌝ }
+    ensures { λ e. ⌜ Put (now (out .entry)) at (rulesIn (rows .rows) (rows .count)) e (now (out .exit)) ⌝ }
 {
-    let words = rows.words;
-    let size = 6 * rows.count;
-    let mut j: usize = 0;
-    while j < size {
-        out[at + j] = words[j];
-        j += 1;
+    let all = rows.rows;
+    let count = rows.count;
+    let mut end = at;
+    let mut i: usize = 0;
+    while i < count {
+        end = put_row(out, end, all[i]);
+        i += 1;
     }
-    at + size
+    end
+}
+
+// Writes a row to the output at a place, and gives the place behind it.
+fn put_row(out: &mut [u16], at: usize, row: Row) -> usize
+    requires { ⌜ at + ruleSize ≤ length (now out) ⌝ }
+    ensures { λ e. ⌜ Put (now (out .entry)) at (ruleOf row ∷ []) e (now (out .exit)) ⌝ }
+{
+    out[at] = row.0;
+    out[at + 1] = row.1;
+    out[at + 2] = row.2;
+    out[at + 3] = row.3;
+    out[at + 4] = row.4;
+    out[at + 5] = row.5;
+    at + RULE_SIZE
 }

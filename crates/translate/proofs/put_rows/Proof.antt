@@ -1,75 +1,56 @@
--- `put_rows` meets its contract: the first j words are copied, and the rest is as it was.
-use Prim.Native.Nat.{_≤_, _-_, _*_}
-use mathlib.Core.Path.{_≡_, refl, ap, _∙_}
-use native.Mathlib.Numerals.{add-one}
+-- `put_rows` meets its contract: the first i rows are put one behind another.
+use Prim.Native.Nat.{_≤_, _-_}
+use mathlib.Core.Path.{_≡_}
 use native.Mathlib.Omega.{arith}
-use lib.ListN.{length}
-use lib.Seq.{paste, paste-zero, paste-suc, length-paste}
 use borrow.Author.Needs.{needs}
+use Rattle.translate.specs.Rows.{Put, rulesIn}
+use Rattle.translate.proofs.Appending.{put-none, put-length, put-more, rules-length, rules-more}
 use Rattle.translate.proofs.put_rows.Statement.{statement}
 use Rattle.translate.proofs.put_rows.Tie as tie
 
 abbrev Inv-loop : tie.InvT-loop
-Inv-loop out₀ at words size j₀ out j = (j ≤ size) × (out ≡ paste out₀ at words j)
+Inv-loop out₀ at all count end₀ i₀ out end i = (i ≤ count) × Put out₀ at (rulesIn all i) end out
 
 abbrev μ-loop : tie.MeasureT-loop
-μ-loop out₀ at words size j₀ out j = size - j
-
--- The output keeps its length.
-kept : (c : tie.At-loop Inv-loop μ-loop) → length (c .loop .out) ≡ length (c .before .before .before .args .out .now)
-kept c =
-    let a = c .before .before .before in
-    ap length (c .loop .inv .1)
-    ∙ length-paste (a .args .out .now) (a .args .at) (a .args .rows .words) (c .loop .j) (omega (arith, a .pre))
-    (omega (arith, a .pre))
-
-mul-size : tie.Need-mul-size Inv-loop μ-loop
-mul-size c = search needs
+μ-loop out₀ at all count end₀ i₀ out end i = count - i
 
 loop-holds : tie.Need-loop-holds Inv-loop μ-loop
-loop-holds c =
-    let a = c .before .before .args in
-    (search needs, paste-zero (a .out .now) (a .at) (a .rows .words))
+loop-holds c = (omega arith, put-none _ _)
 
-mul-out : tie.Need-mul-out Inv-loop μ-loop
-mul-out c = search needs
+mul-put-row : tie.Need-mul-put-row Inv-loop μ-loop
+mul-put-row c = search needs
 
-array-read-out : tie.Need-array-read-out Inv-loop μ-loop
-array-read-out c = search needs
+array-copy-out-put-row : tie.Need-array-copy-out-put-row Inv-loop μ-loop
+array-copy-out-put-row c = search needs
 
-add-out : tie.Need-add-out Inv-loop μ-loop
-add-out c = search needs
+put-row-requires : tie.Need-put-row-requires Inv-loop μ-loop
+put-row-requires c κs =
+    let at-loop = c .before .before .before in
+    let rows = at-loop .before .before .before .args .rows .rows in
+    let put = at-loop .loop .inv .1 in
+    omega (arith, put-length put, put .place, rules-length rows (at-loop .loop .i) (omega arith))
 
-mul-out-2 : tie.Need-mul-out-2 Inv-loop μ-loop
-mul-out-2 c = omega (arith, kept (c .before), c .before .before .before .before .good)
-
-slice-write-out : tie.Need-slice-write-out Inv-loop μ-loop
-slice-write-out c = omega (arith, kept (c .before))
-
-add-j : tie.Need-add-j Inv-loop μ-loop
-add-j c = search needs
+add-i : tie.Need-add-i Inv-loop μ-loop
+add-i c = search needs
 
 loop-less : tie.Need-loop-less Inv-loop μ-loop
 loop-less c = search needs
 
 loop-again : tie.Need-loop-again Inv-loop μ-loop
 loop-again c =
-    let s = c .before .before .before .before in
-    let j = c .before .loop .j in
-    let turn = paste-suc (s .args .out .now) (s .args .at) (s .args .rows .words) j 0 (omega (arith, s .pre))
-    (omega (arith, s .pre)) in
-    (omega arith, rw (c .before .loop .inv .1, add-one j) turn)
-
-add-result : tie.Need-add-result Inv-loop μ-loop
-add-result c = search needs
+    let put = c .before .before in
+    let at-loop = put .before .before .before .before in
+    let rows = at-loop .before .before .before .args .rows .rows in
+    let more = put-more (at-loop .loop .inv .1) (put .put-row .ensures) in
+    (omega arith, rw (rules-more rows (at-loop .loop .i) (0, 0, 0, 0, 0, 0) (omega arith)) more)
 
 same-length : tie.Need-same-length Inv-loop μ-loop
-same-length c = kept (c .before)
+same-length c = put-length (c .before .loop .inv .1)
 
 returns : tie.Need-returns Inv-loop μ-loop
 returns c =
-    let e : c .before .loop .j ≡ 6 * c .before .before .before .before .args .rows .count = omega arith in
-    record { place = refl; whole = c .before .loop .inv .1 ∙ rw e }
+    let e : c .before .loop .i ≡ c .before .before .before .before .args .rows .count = omega arith in
+    rw e at (c .before .loop .inv .1)
 
 pub put-rows-spec : {M : Type 1} → statement M
 put-rows-spec =
@@ -77,16 +58,12 @@ put-rows-spec =
     (tie.spec
     Inv-loop
     μ-loop
-    mul-size
     loop-holds
-    mul-out
-    array-read-out
-    add-out
-    mul-out-2
-    slice-write-out
-    add-j
+    mul-put-row
+    array-copy-out-put-row
+    put-row-requires
+    add-i
     loop-less
     loop-again
-    add-result
     same-length
     returns)

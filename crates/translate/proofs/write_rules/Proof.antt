@@ -7,13 +7,14 @@ use Rattle.meaning.specs.Run.{each}
 use Rattle.meaning.specs.Record.{count}
 use Rattle.meaning.specs.Translation.{rulesAt}
 use Rattle.meaning.proofs.RuleCount.{record-few}
-use Rattle.translate.proofs.Appending.{Begun, begun-none, begun-more, begun-room, begun-length, begun-done}
-use Rattle.translate.proofs.Appending.{each-more, rowed-long, room-more, room-last}
+use Rattle.translate.specs.Rows.{Put}
+use Rattle.translate.proofs.Appending.{put-none, put-length, rowed-long, rowed-room, rowed-more}
+use Rattle.translate.proofs.Appending.{each-more, room-more, room-last, put-all}
 use Rattle.translate.proofs.write_rules.Statement.{statement}
 use Rattle.translate.proofs.write_rules.Tie as tie
 
 abbrev Inv-loop : tie.InvT-loop
-Inv-loop records atoms modes conts out₀ n at₀ r₀ out at r = (r ≤ n) × Begun (each r (rulesAt records atoms)) out₀ out at
+Inv-loop records atoms modes conts out₀ n at₀ r₀ out at r = (r ≤ n) × Put out₀ 0 (each r (rulesAt records atoms)) at out
 
 abbrev μ-loop : tie.MeasureT-loop
 μ-loop records atoms modes conts out₀ n at₀ r₀ out at r = n - r
@@ -27,8 +28,8 @@ before-end c = omega (arith, c .before .before .record-count .ensures)
 
 all : (c : tie.After-loop Inv-loop μ-loop)
     → let a = start (c .before) .args in
-    Begun (each (count (a .records .now)) (rulesAt (a .records .now) (a .atoms))) (a .out .now) (c .before .loop .out)
-    (c .before .loop .at)
+    Put (a .out .now) 0 (each (count (a .records .now)) (rulesAt (a .records .now) (a .atoms))) (c .before .loop .at)
+    (c .before .loop .out)
 all c =
     let e : c .before .loop .r ≡ count (start (c .before) .args .records .now) =
     omega (arith, c .before .before .record-count .ensures) in
@@ -39,7 +40,8 @@ record-count-requires : tie.Need-record-count-requires Inv-loop μ-loop
 record-count-requires c κs = search needs
 
 loop-holds : tie.Need-loop-holds Inv-loop μ-loop
-loop-holds c = (omega arith, begun-none _)
+unfolding each
+loop-holds c = (omega arith, put-none _ _)
 
 record-rows-requires : tie.Need-record-rows-requires Inv-loop μ-loop
 record-rows-requires c κs = search needs
@@ -52,7 +54,7 @@ put-rows-requires c κs =
     let w = c .before .record-rows .ensures in (
       omega (arith, w .counted, record-few (a .records .now) (a .atoms) r),
       rowed-long w,
-      begun-room (in-loop .before .loop .inv .1) w
+      rowed-room w (in-loop .before .loop .inv .1)
           (room-more (a .records .now) (a .atoms) (start (in-loop .before) .pre .2) r (before-end in-loop)),
     )
 
@@ -66,7 +68,7 @@ loop-again : tie.Need-loop-again Inv-loop μ-loop
 loop-again c =
     let put = c .before .before in
     let rows = put .before .before in
-    let more = begun-more (rows .before .before .loop .inv .1) (rows .record-rows .ensures) (put .put-rows .ensures) in
+    let more = rowed-more (rows .record-rows .ensures) (rows .before .before .loop .inv .1) (put .put-rows .ensures) in
     (omega arith, rw each-more more)
 
 -- ---- the last rule
@@ -86,24 +88,23 @@ put-rows-requires-2 c κs =
     let w = c .assert-row .ensures in (
       omega (arith, w .counted),
       rowed-long w,
-      begun-room (all done) w (room-last (s .args .records .now) (s .args .atoms) (s .pre .2) _),
+      rowed-room w (all done) (room-last (s .args .records .now) (s .args .atoms) (s .pre .2) _),
     )
 
 same-length : tie.Need-same-length Inv-loop μ-loop
 same-length c =
     let put = c .before .before in
     let done = put .before .before .before .before in
-    let s = start (done .before) in
-    begun-length (begun-more (all done) (put .before .assert-row .ensures) (put .put-rows2 .ensures))
-    (room-last (s .args .records .now) (s .args .atoms) (s .pre .2) _)
+    put-length (rowed-more (put .before .assert-row .ensures) (all done) (put .put-rows2 .ensures))
 
 returns : tie.Need-returns Inv-loop μ-loop
 returns c =
     let put = c .before .before in
     let label = put .before .before in
     let done = label .before .before in
-    begun-done _ _ (all done) (omega (arith, label .label .ensures, done .before .before .record-count .ensures))
-    (put .before .assert-row .ensures) (put .put-rows2 .ensures)
+    put-all _ _ (start (done .before) .pre .2)
+    (omega (arith, label .label .ensures, done .before .before .record-count .ensures))
+    (rowed-more (put .before .assert-row .ensures) (all done) (put .put-rows2 .ensures))
 
 pub write-rules-spec : {M : Type 1} → statement M
 write-rules-spec =

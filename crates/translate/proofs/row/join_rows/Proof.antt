@@ -1,19 +1,18 @@
--- `join_rows` meets its contract: by the mode, its words are those of the rules.
+-- `join_rows` meets its contract: by the mode, its rows are the rules.
 use mathlib.Core.Path.{refl}
 use borrow.Author.Tests.{eq-eqb, ne-eqb}
-use Rattle.meaning.specs.Rule.{words}
 use Rattle.meaning.specs.Translation.{joinRules}
 use Rattle.records.specs.Code.{modeOf}
 use Rattle.translate.proofs.row.join_rows.Statement.{statement}
 use Rattle.translate.proofs.row.join_rows.Tie as tie
 
 returns : tie.Need-returns
-unfolding words joinRules modeOf
-returns c = rw (eq-eqb _ _ (c .if1 .taken)) (record { counted = refl; written = refl })
+unfolding joinRules modeOf
+returns c = rw (eq-eqb _ _ (c .if1 .taken)) (record { counted = refl; held = refl })
 
 returns-2 : tie.Need-returns-2
-unfolding words joinRules modeOf
-returns-2 c = rw (ne-eqb _ _ (c .if1 .left)) (record { counted = refl; written = refl })
+unfolding joinRules modeOf
+returns-2 c = rw (ne-eqb _ _ (c .if1 .left)) (record { counted = refl; held = refl })
 
 pub join-rows-spec : {M : Type 1} → statement M
 join-rows-spec = tie.close (tie.spec returns returns-2)

@@ -1,7 +1,6 @@
--- `moving_rows` meets its contract: two rules, and behind them the words of the edge rule.
+-- `moving_rows` meets its contract: two rules, and behind them the edge rule.
 use mathlib.Core.Path.{refl}
 use borrow.Author.Needs.{needs}
-use Rattle.meaning.specs.Rule.{words}
 use Rattle.translate.proofs.Rowing.{edge-words}
 use Rattle.translate.proofs.row.moving_rows.Statement.{statement}
 use Rattle.translate.proofs.row.moving_rows.Tie as tie
@@ -13,12 +12,11 @@ edge-head-requires : tie.Need-edge-head-requires
 edge-head-requires c κs = search needs
 
 returns : tie.Need-returns
-unfolding words
 returns c =
     let a = c .before .before .args in
     record {
       counted = refl;
-      written = rw (c .before .edge-body .ensures, c .edge-head .ensures) (cc (edge-words (a .mode) (a .place) (a .x)));
+      held = rw (c .before .edge-body .ensures, c .edge-head .ensures, edge-words (a .mode) (a .place) (a .x));
     }
 
 pub moving-rows-spec : {M : Type 1} → statement M
