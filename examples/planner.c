@@ -105,7 +105,7 @@ static int try_plan(const struct plan *plan, size_t records, size_t count)
         return 1;
     }
     const uint8_t *values = table + (records - 1) * INSTANTS;
-    printf("%5d   %d %d %d %d   ", v.value, values[0], values[1], values[2], values[3]);
+    printf("%5d   %d %d %d %d     ", v.value, values[0], values[1], values[2], values[3]);
     fill(plan, count);
     pasturequill_judged j = judge(ATOMS + records, count);
     if (j.holds)
@@ -125,7 +125,7 @@ int main(void)
         return 1;
     }
     printf("carries until delivered: %zu records, %" PRIu64 " rules\n\n", records, translated.count);
-    printf("%-28svalue   at each   all rules hold\n", "plan");
+    printf("%-28svalue   at 0 .. 3   all rules hold\n", "plan");
     int agree = 1;
     for (size_t i = 0; i < sizeof plans / sizeof *plans; i++)
         agree &= try_plan(&plans[i], records, (size_t)translated.count);

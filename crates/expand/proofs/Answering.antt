@@ -8,8 +8,8 @@ use native.Mathlib.Omega.{arith}
 use lib.ListN.{length}
 use borrow.Author.Tests.{lt-ltb, le-ltb, eq-eqb, ne-eqb}
 use Rattle.meaning.specs.Run.{written}
-use Rattle.meaning.specs.Record.{count, recordSize, mostRecords}
-use Rattle.meaning.specs.Tree.{formAt, postorder}
+use Rattle.meaning.specs.Record.{count, recordSize, mostRecords, formula}
+use Rattle.meaning.specs.Tree.{formAt, treeAt, postorder}
 use Rattle.meaning.specs.Refusal.{Ground, firstOf, ground10, ground14, formulaGrounds, expandGrounds, wholeForm}
 use Rattle.meaning.specs.Service.{expandAnswer, expandAfter}
 use Rattle.meaning.specs.WellFormed.{WellFormed}
@@ -17,6 +17,7 @@ use Rattle.meaning.proofs.Accepted.{clear-well-formed}
 use Rattle.meaning.proofs.First.{clear-skip, found-stop}
 use Rattle.expand.specs.Steps.{treeFrom, treeSize}
 use Rattle.expand.specs.Asking.{Asked, bytesAt, sizeAt}
+use Rattle.expand.proofs.Sized.{tree-length}
 
 module _ (s : List ℕ) (A : ℕ) where
   abbrev early : List Ground
@@ -80,3 +81,8 @@ module _ {s : List ℕ} {A : ℕ} (w : WellFormed true s A) where
   pub last-bytes : bytesAt s (pred (count s)) 0 ≡ postorder (formAt s (pred (count s)))
   unfolding treeFrom
   last-bytes = rw (w .last)
+
+-- It takes six bytes a record.
+pub whole-length : (s : List ℕ) → length (postorder (formAt s (pred (count s)))) ≡ recordSize * wholeForm s
+unfolding treeFrom treeSize
+whole-length s = tree-length formula (treeAt s (pred (count s))) 0

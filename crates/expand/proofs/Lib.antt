@@ -2,7 +2,6 @@
 pub mod Stepping
 pub mod Sized
 pub mod Row
-pub mod Putting
 pub mod Parts
 pub mod Writing
 pub mod Counting

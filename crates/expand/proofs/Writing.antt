@@ -1,21 +1,22 @@
 -- Writing a record's steps one after the other. What was written is put at the start's place, and what it lacks of the record's tree
 -- is what the steps that are left write: so each step takes its part from what is left to what was written, and at the end nothing is left.
 use Prim.Native.Nat.{ℕ, _+_, _*_, _/_, _%_, _<_, _≤_}
-use mathlib.Core.Path.{_≡_, sym, ap, _∙_}
+use mathlib.Core.Path.{_≡_, refl, sym, ap, _∙_}
 use mathlib.Core.Bool.{Bool, true, false, cond}
 use mathlib.Core.List.{List, [], _++_, append-assoc, append-nil}
 use native.Mathlib.Omega.{arith}
 use native.Mathlib.Nat.{le-refl}
 use lib.Dec.{eqb}
 use lib.ListN.{length, length-append}
+use lib.Seq.{sets, length-sets}
 use Rattle.meaning.specs.Record.{kindOf, kindAt, fieldA, fieldB, sortOf, recordSize, mostRecords}
 use Rattle.meaning.specs.Tree.{treeAt}
+use Rattle.meaning.proofs.Stores.{sets-append}
 use Rattle.expand.specs.Steps.{rowOf, children, nextUnder}
-use Rattle.expand.specs.Asking.{Asked, bytesAt, sizeAt, stepBytes, stepCount, fits, put, Room, Wrote}
+use Rattle.expand.specs.Asking.{Asked, bytesAt, sizeAt, stepBytes, stepCount, fits, Room, Wrote}
 use Rattle.expand.proofs.Stepping.{stepsFrom}
 use Rattle.expand.proofs.Sized.{tree-length, step-length, stepsSize, steps-length}
 use Rattle.expand.proofs.Row.{Rest, rest-all, rest-none, Read, rest-read}
-use Rattle.expand.proofs.Putting.{put-none, length-put, put-more}
 use Rattle.expand.proofs.Parts.{rowBytes, rowCount, bytes-stepped}
 
 pub record Going (s : List ℕ) (r from : ℕ) (old : List ℕ) (rest under n : ℕ) (out : List ℕ) : Type 0 where
@@ -24,7 +25,7 @@ pub record Going (s : List ℕ) (r from : ℕ) (old : List ℕ) (rest under n : 
   pub place : recordSize * n ≡ recordSize * from + length done
   pub below : under ≤ n
   pub whole : done ++ rowBytes s r (steps .left) under n ≡ bytesAt s r from
-  pub wrote : out ≡ put old (recordSize * from) done
+  pub wrote : out ≡ sets old (recordSize * from) done
 
 under-below : (d under n : ℕ) → under ≤ n → nextUnder d under n ≤ n
 unfolding nextUnder
@@ -42,7 +43,7 @@ module _ {s : List ℕ} {r from : ℕ} {old : List ℕ} (w : Asked s r) (room : 
     place = omega arith;
     below = le-refl from;
     whole = sym (bytes-stepped w from);
-    wrote = put-none old (recordSize * from);
+    wrote = refl;
   }
 
   module _ {rest under n : ℕ} {out : List ℕ} (g : Going s r from old rest under n out) where
@@ -57,9 +58,7 @@ module _ {s : List ℕ} {r from : ℕ} {old : List ℕ} (w : Asked s r) (room : 
         )
 
     pub kept : length out ≡ length old
-    kept =
-        ap length (g .wrote)
-        ∙ length-put old (recordSize * from) (g .done) (omega (arith, room .long)) (omega (arith, room .long, sized, g .place))
+    kept = ap length (g .wrote) ∙ length-sets old (recordSize * from) (g .done)
 
     pub going-done : rest ≡ 1 → Wrote (bytesAt s r from) from (sizeAt s r) old n out
     unfolding stepsFrom stepsSize
@@ -103,5 +102,5 @@ module _ {s : List ℕ} {r from : ℕ} {old : List ℕ} (w : Asked s r) (room : 
             place = simp length-append (omega (arith, g .place, p .next, long));
             below = omega (arith, h, p .next, under-below (rest % 16) under n (g .below));
             whole = rw (append-assoc, h, p .next) (rw (← bytes) (g .whole));
-            wrote = p .whole ∙ rw (g .wrote, g .place) (put-more old (recordSize * from) (g .done) (omega (arith, room .long)) x);
+            wrote = p .whole ∙ rw (g .wrote, g .place) (sets-append (g .done) x old (recordSize * from));
           }

@@ -4,15 +4,15 @@
 --   stepBytes s r d under n      those of its step d
 --   stepCount s r d              how many these are
 --   fits kind d                  a record of the kind may have the step d
---   put old at new               the buffer `old` with `new` at a place
 --   Room n size out              so many records fit from number n on
 --   Wrote bytes n size old e new    the bytes of so many records were written from number n on, and e is the number behind them
 use Prim.Native.Nat.{ℕ, _+_, _*_, _<_, _≤_}
 use mathlib.Core.Path.{_≡_}
 use mathlib.Core.Bool.{Bool, true, false, cond, _&&_}
-use mathlib.Core.List.{List, _++_}
+use mathlib.Core.List.{List}
 use lib.Dec.{eqb, ltb}
-use lib.ListN.{length, take, drop}
+use lib.ListN.{length}
+use lib.Seq.{sets}
 use Rattle.meaning.specs.Record.{Kind, Use, unused, atomNumber, child, useA, recordSize, mostRecords, count, kindAt, fieldA, fieldB, sortOf}
 use Rattle.meaning.specs.Tree.{treeAt}
 use Rattle.meaning.specs.WellFormed.{WellFormed}
@@ -51,13 +51,10 @@ unfoldable pub fits : Kind → ℕ → Bool
 fits kind d = cond (ltb d 14) (cond (eqb d 2) (isAtom (useA kind)) true) (ltb d 16 && isChild (partUse kind d))
 
 -- ---- the buffer
-abbrev pub put : List ℕ → ℕ → List ℕ → List ℕ
-put old at new = take at old ++ new ++ drop (at + length new) old
-
 pub record Room (n size : ℕ) (out : List ℕ) : Type 0 where
   pub few : n + size ≤ mostRecords
   pub long : recordSize * (n + size) ≤ length out
 
 pub record Wrote (bytes : List ℕ) (n size : ℕ) (old : List ℕ) (e : ℕ) (new : List ℕ) : Type 0 where
   pub next : e ≡ n + size
-  pub whole : new ≡ put old (recordSize * n) bytes
+  pub whole : new ≡ sets old (recordSize * n) bytes

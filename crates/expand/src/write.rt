@@ -3,8 +3,9 @@ ghost use mathlib.Core.Path.{_≡_};
 ghost use mathlib.Core.Bool.{true};
 ghost use Prim.Native.Nat.{_+_, _*_, _<_, _≤_};
 ghost use lib.ListN.{length};
+ghost use lib.Seq.{sets};
 ghost use Rattle.meaning.specs.Record.{recordSize, mostRecords, recordBytes, kindAt};
-ghost use Rattle.expand.specs.Asking.{Asked, bytesAt, sizeAt, stepBytes, stepCount, fits, put, Room, Wrote};
+ghost use Rattle.expand.specs.Asking.{Asked, bytesAt, sizeAt, stepBytes, stepCount, fits, Room, Wrote};
 use crate::steps;
 use records::layout;
 
@@ -47,7 +48,7 @@ fn write_step(records: &[u8], r: usize, step: u8, under: usize, out: &mut [u8], 
 // Writes one record as number n.
 fn put_record(out: &mut [u8], n: usize, kind: u8, a: usize, b: usize)
     requires { ⌜ (recordSize * n + recordSize ≤ length (now out)) × (a < 65_536) × (b < 65_536) ⌝ }
-    ensures { λ _. ⌜ now (out .exit) ≡ put (now (out .entry)) (recordSize * n) (recordBytes kind a b) ⌝ }
+    ensures { λ _. ⌜ now (out .exit) ≡ sets (now (out .entry)) (recordSize * n) (recordBytes kind a b) ⌝ }
 {
     let at = layout::RECORD_SIZE * n;
     out[at] = kind;

@@ -2,14 +2,20 @@
 -- w * k + i of the whole, and there is no other: every number below w * n is such a number.
 use Prim.Native.Nat.{ℕ, zero, suc, _+_, _*_, _-_, _<_}
 use mathlib.Core.Path.{_≡_, refl, _∙_}
-use mathlib.Core.List.{List, [], _∷_}
+use mathlib.Core.List.{List, [], _∷_, _++_}
 use mathlib.Core.Logic.{inl, inr}
 use native.Mathlib.Nat.{le-refl, mul-le-mul-left}
+use native.Mathlib.Numerals.{add-one}
 use native.Mathlib.Omega.{arith}
 use lib.ListN.{length, getD, length-append, List·getD-append}
 use lib.Seq.{getD-append-add}
 use Rattle.meaning.specs.Run.{each, tabulate}
 use Rattle.meaning.proofs.Bounds.{le-or-lt, all-suc}
+
+-- ---- one part more
+pub each-more : {T : Type 0} (f : ℕ → List T) (n : ℕ) → each (n + 1) f ≡ each n f ++ f n
+unfolding each
+each-more f n = rw add-one
 
 -- ---- parts of one length
 module _ {T : Type 0} (w : ℕ) (f : ℕ → List T) (sized : (k : ℕ) → length (f k) ≡ w) where

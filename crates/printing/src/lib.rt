@@ -86,7 +86,7 @@ fn gap(j: usize) -> u8
 // Puts the last line at a place, a word and a number, and gives the place behind the line.
 fn put_last(out: &mut [u8], at: usize, word: &[u8], n: u64) -> usize
     requires { ⌜ (n < 65536) × (at + length (now word) + 6 ≤ length (now out)) ⌝ }
-    ensures { λ e. ⌜ Put (now (out .entry)) at (now (word .entry) ++ told n lineEnd) e (now (out .exit)) ⌝ }
+    ensures { λ e. ⌜ Put (now (out .entry)) at (now (word .entry) ++ told n lineEnd) e (now (out .exit)) × (e ≤ at + length (now (word .entry)) + 6) ⌝ }
 {
     let e = put_bytes(out, at, word);
     put_number(out, e, n, LINE_END)

@@ -4,17 +4,18 @@ use Prim.Native.Nat.{ℕ, zero, suc, pred, _+_, _*_, _<_, _≤_}
 use mathlib.Core.Path.{_≡_, refl, ap, _∙_}
 use mathlib.Core.List.{List, [], _∷_, _++_, map-append}
 use mathlib.Core.Logic.{inl, inr}
-use native.Mathlib.Nat.{le-refl, zero-add, add-zero, add-suc, suc-add}
+use native.Mathlib.Nat.{le-refl}
 use native.Mathlib.Numerals.{add-one}
 use native.Mathlib.Omega.{arith}
-use lib.ListN.{length, take, set, getD, length-append, length-map, length-take}
-use lib.Seq.{length-take-le, take-suc, sets, length-sets, sets-eq}
+use lib.ListN.{length, take, getD, length-append, length-map, length-take}
+use lib.Seq.{length-take-le, take-suc, length-sets}
 use Rattle.meaning.specs.Run.{each, written}
 use Rattle.meaning.specs.Record.{count, kindAt}
 use Rattle.meaning.specs.Rule.{Rule, rule, ruleSize, words}
 use Rattle.meaning.specs.Translation.{label, context, rulesAt, asserted, translation, ruleNumber, ruleSum}
 use Rattle.meaning.proofs.Bounds.{below-suc}
 use Rattle.meaning.proofs.RuleCount.{words-length}
+use Rattle.meaning.proofs.Stores.{sets-append, sets-written}
 use Rattle.records.specs.Code.{modeOf}
 use Rattle.translate.specs.Contexts.{Moded}
 use Rattle.translate.specs.Rows.{Rowed, Put, ruleOf, rulesIn}
@@ -30,10 +31,6 @@ words-append (ρ ∷ ρs) σs = rw (words-append ρs σs)
 
 -- ---- one record more
 module _ {T : Type 0} (f : ℕ → List T) where
-  pub each-more : (r : ℕ) → each (r + 1) f ≡ each r f ++ f r
-  unfolding each
-  each-more r = rw add-one
-
   each-grows : (n r : ℕ) → r < n → length (each r f ++ f r) ≤ length (each n f)
   unfolding each
   each-grows zero r l = absurd (omega arith)
@@ -42,10 +39,6 @@ module _ {T : Type 0} (f : ℕ → List T) where
       [ inl e ↦ rw e (le-refl _) | inr m ↦ omega (arith, each-grows n r m, length-append (each n f) (f n)) ]
 
 -- ---- rules put behind rules
-sets-append : (xs ys l : List ℕ) (i : ℕ) → sets (sets l i xs) (i + length xs) ys ≡ sets l i (xs ++ ys)
-sets-append [] ys l i = rw add-zero
-sets-append (x ∷ xs) ys l i = rw (add-suc, ← suc-add) (sets-append xs ys (set l i x) (suc i))
-
 pub put-none : (at : ℕ) (old : List ℕ) → Put old at [] at old
 unfolding words
 put-none at old = record { place = omega arith; whole = refl }
@@ -112,11 +105,10 @@ module _ (s : List ℕ) (A : ℕ) where
 pub put-all : (s : List ℕ) (A : ℕ) {old new : List ℕ} {e x : ℕ} → ruleSize * length (translation s A) ≤ length old
     → x ≡ label A (pred (count s)) → Put old 0 (before-last s A ++ (rule 1 [] (x ∷ []) ∷ [])) e new
     → new ≡ written (words (translation s A)) old
-unfolding translation written
+unfolding translation
 put-all s A {old} fits l p =
-    let ws = words (translation s A) in
-    let room : 0 + length ws ≤ length old = omega (arith, words-length (translation s A)) in
-    rw l at (p .whole) ∙ rw zero-add at (sets-eq ws old 0 room)
+    rw l at (p .whole)
+    ∙ sets-written (words (translation s A)) old (omega (arith, words-length (translation s A)))
 
 -- ---- how many
 -- So many rules come from the first r records, with the last rule.

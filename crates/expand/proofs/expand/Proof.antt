@@ -9,8 +9,8 @@ use Rattle.meaning.specs.Refusal.{wholeForm}
 use Rattle.meaning.specs.WellFormed.{WellFormed}
 use Rattle.meaning.proofs.Accepted.{accepted}
 use Rattle.expand.proofs.Answering.{refused, refused-many, refused-room, not-refused, answers-refusal, answers-tree}
-use Rattle.expand.proofs.Answering.{last-asked, last-size, last-bytes}
-use Rattle.expand.proofs.Putting.{put-start}
+use Rattle.meaning.proofs.Stores.{sets-written}
+use Rattle.expand.proofs.Answering.{last-asked, last-size, last-bytes, whole-length}
 use Rattle.expand.proofs.expand.Statement.{statement}
 use Rattle.expand.proofs.expand.Tie as tie
 
@@ -86,9 +86,11 @@ returns-4 c =
     let (fit, exact) = few (three .before) in
     let counted = three .before .before .before in
     let w = formed (counted .before) in
+    let a = start (counted .before) .args in
     let bytes = rw (last counted, last-bytes w) at (wrote .write-tree .ensures .whole) in
-    answers-tree _ _ _ (not-refused _ _ _ w fit (rw exact at (three .if3 .left))) exact
-    (bytes ∙ put-start (start (counted .before) .args .out .now) _)
+    let room = rw exact at (three .if3 .left) in
+    answers-tree _ _ _ (not-refused _ _ _ w fit room) exact
+    (bytes ∙ sets-written _ (a .out .now) (omega (arith, whole-length (a .records .now))))
 
 pub expand-spec : {M : Type 1} → statement M
 expand-spec =

@@ -1,10 +1,10 @@
 -- `put_bytes` meets its contract: the first i bytes are copied, and the rest is as it was.
 use Prim.Native.Nat.{_≤_, _-_}
-use mathlib.Core.Path.{_≡_, ap, _∙_}
+use mathlib.Core.Path.{_≡_, sym, ap, _∙_}
 use native.Mathlib.Numerals.{add-one}
 use native.Mathlib.Omega.{arith}
 use lib.ListN.{length}
-use lib.Seq.{paste, paste-zero, paste-suc, length-paste, take-length}
+use lib.Seq.{paste, paste-zero, paste-suc, length-paste, take-length, sets-eq}
 use borrow.Author.Needs.{needs}
 use Rattle.printing.proofs.put_bytes.Statement.{statement}
 use Rattle.printing.proofs.put_bytes.Tie as tie
@@ -57,9 +57,11 @@ same-length c = kept (c .before)
 
 returns : tie.Need-returns Inv-loop μ-loop
 returns c =
-    let bytes = c .before .before .args .bytes .now in
+    let a = c .before .before .args in
+    let bytes = a .bytes .now in
     let e : c .before .loop .i ≡ length bytes = omega arith in
-    record { place = rw e; whole = c .before .loop .inv .1 ∙ rw (e, take-length bytes) }
+    let all = rw (e, take-length bytes) at (c .before .loop .inv .1) in
+    record { place = rw e; whole = all ∙ sym (sets-eq bytes (a .out .now) (a .at) (c .before .before .pre)) }
 
 pub put-bytes-spec : {M : Type 1} → statement M
 put-bytes-spec =

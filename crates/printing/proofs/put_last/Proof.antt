@@ -18,7 +18,8 @@ returns : tie.Need-returns
 returns c =
     let number = c .before .before in
     let word = number .before .before .before .before in
-    put-more (word .put-bytes .ensures) (omega (arith, word .before .before .before .before .pre)) (number .put-number .ensures .0)
+    let (put, end) = number .put-number .ensures in
+    (put-more (word .put-bytes .ensures) put, omega (arith, word .put-bytes .ensures .place))
 
 pub put-last-spec : {M : Type 1} → statement M
 put-last-spec = tie.close (tie.spec put-bytes-requires put-number-requires same-length returns)

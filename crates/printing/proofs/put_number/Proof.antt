@@ -40,7 +40,7 @@ returns c =
     let d = put .before .before .before in
     let few = few d in
     let digits = d .decimal .ensures .1 .1 ∙ decimal-digits _ _ (d .decimal .ensures .1 .0) in
-    (put-more (rw digits at (put .put-bytes .ensures)) (omega arith) (put-byte _ _ _ (omega arith)), omega arith)
+    (put-more (rw digits at (put .put-bytes .ensures)) (put-byte _ _ _), omega arith)
 
 pub put-number-spec : {M : Type 1} → statement M
 put-number-spec =

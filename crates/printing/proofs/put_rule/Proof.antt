@@ -19,7 +19,7 @@ abbrev μ-loop : tie.MeasureT-loop
 
 -- The output keeps its length.
 kept : (c : tie.At-loop Inv-loop μ-loop) → length (c .loop .out) ≡ length (c .before .before .before .args .out .now)
-kept c = put-length (c .loop .inv .1) (omega (arith, c .before .before .before .pre, c .loop .inv .1 .place))
+kept c = put-length (c .loop .inv .1)
 
 loop-holds : tie.Need-loop-holds Inv-loop μ-loop
 loop-holds c = (omega arith, put-first _ _ _, omega arith)
@@ -58,7 +58,7 @@ loop-again c =
     let wide = put .before .before in
     let loop = wide .before .before .before .before in
     let text = rw (wide .wide .ensures .0, put .before .gap .ensures) at (put .put-number .ensures .0) in
-    (omega arith, put-next _ _ (omega (arith, loop .before .before .before .pre)) (loop .loop .inv .1) text, omega arith)
+    (omega arith, put-next _ _ (loop .loop .inv .1) text, omega arith)
 
 same-length : tie.Need-same-length Inv-loop μ-loop
 same-length c = kept (c .before)

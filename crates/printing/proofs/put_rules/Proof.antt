@@ -19,7 +19,7 @@ abbrev μ-loop : tie.MeasureT-loop
 
 -- The output keeps its length.
 kept : (c : tie.At-loop Inv-loop μ-loop) → length (c .loop .out) ≡ length (c .before .before .before .args .out .now)
-kept c = put-length (c .loop .inv .1) (omega (arith, c .before .before .before .pre, c .loop .inv .1 .place))
+kept c = put-length (c .loop .inv .1)
 
 loop-holds : tie.Need-loop-holds Inv-loop μ-loop
 loop-holds c = (omega arith, put-first _ _ _, omega arith)
@@ -40,7 +40,7 @@ loop-again : tie.Need-loop-again Inv-loop μ-loop
 loop-again c =
     let put = c .before .before in
     let loop = put .before .before .before in
-    (omega arith, put-next _ _ (omega arith) (loop .loop .inv .1) (put .put-rule .ensures .0), omega arith)
+    (omega arith, put-next _ _ (loop .loop .inv .1) (put .put-rule .ensures .0), omega arith)
 
 same-length : tie.Need-same-length Inv-loop μ-loop
 same-length c = kept (c .before)

@@ -19,7 +19,7 @@ few c =
 -- The output keeps its length.
 kept : (c : tie.After-put-rules)
     → length (c .put-rules .last .0) ≡ length (c .before .before .before .before .before .before .before .before .before .args .out .now)
-kept c = put-length (c .put-rules .ensures .0) (omega (arith, few (c .before .before .before), c .put-rules .ensures .0 .place))
+kept c = put-length (c .put-rules .ensures .0)
 
 -- ---- the needs
 slice-aggregate-translate : tie.Need-slice-aggregate-translate
@@ -41,7 +41,8 @@ returns : tie.Need-returns
 returns c =
     let t = c .before .before .before .before .before .before .before in
     let e = printed-refused _ (t .translate .ensures .0) (c .before .before .before .before .if1 .taken) in
-    put-written (rw (← e) at (c .put-last .ensures))
+    let (put, end) = c .put-last .ensures in
+    put-written (rw (← e) at put) (omega arith)
 
 slice-aggregate-put-rules : tie.Need-slice-aggregate-put-rules
 slice-aggregate-put-rules c = search needs
@@ -66,7 +67,9 @@ returns-2 c =
     let else = put .before .before .before in
     let t = else .before .before .before .translate .ensures in
     let e = printed-rules _ (t .0) (t .1 .0) (else .if1 .left) (t .1 .1) in
-    put-written (rw (← e) at (put-more (put .put-rules .ensures .0) (omega arith) (c .put-last2 .ensures)))
+    let few = few else in
+    let (last, end) = c .put-last2 .ensures in
+    put-written (rw (← e) at (put-more (put .put-rules .ensures .0) last)) (omega arith)
 
 pub text-spec : {M : Type 1} → statement M
 text-spec =

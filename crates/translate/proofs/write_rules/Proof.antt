@@ -7,9 +7,10 @@ use Rattle.meaning.specs.Run.{each}
 use Rattle.meaning.specs.Record.{count}
 use Rattle.meaning.specs.Translation.{rulesAt}
 use Rattle.meaning.proofs.RuleCount.{record-few}
+use Rattle.meaning.proofs.Runs.{each-more}
 use Rattle.translate.specs.Rows.{Put}
 use Rattle.translate.proofs.Appending.{put-none, put-length, rowed-long, rowed-room, rowed-more}
-use Rattle.translate.proofs.Appending.{each-more, room-more, room-last, put-all}
+use Rattle.translate.proofs.Appending.{room-more, room-last, put-all}
 use Rattle.translate.proofs.write_rules.Statement.{statement}
 use Rattle.translate.proofs.write_rules.Tie as tie
 

@@ -4,8 +4,6 @@ use mathlib.Core.Path.{_≡_}
 use borrow.Author.Needs.{needs}
 use native.Mathlib.Omega.{arith}
 use lib.ListN.{length-set}
-use lib.Seq.{sets-eq}
-use Rattle.meaning.specs.Record.{recordBytes}
 use Rattle.expand.proofs.write.put_record.Statement.{statement}
 use Rattle.expand.proofs.write.put_record.Tie as tie
 
@@ -69,7 +67,7 @@ returns c =
     let three : at + 3 ≡ suc (suc (suc at)) = omega arith in
     let four : at + 4 ≡ suc (suc (suc (suc at))) = omega arith in
     let five : at + 5 ≡ suc (suc (suc (suc (suc at)))) = omega arith in
-    rw (one, two, three, four, five) (sets-eq (recordBytes (a .kind) (a .a) (a .b)) (a .out .now) at (omega arith))
+    rw (one, two, three, four, five)
 
 pub put-record-spec : {M : Type 1} → statement M
 put-record-spec =
