@@ -3,12 +3,7 @@
 # A planner in C expands a rule, values it over six plans, translates it, fills the labels and judges; the printing program prints the rules
 # of a formula.
 demo:
-	rt staticlib pasturequill
-	mkdir -p target/c
-	cc -Iinclude examples/planner.c target/staticlib/libpasturequill.a -o target/c/planner
-	target/c/planner
-	rt check print
-	target/bin/print < crates/print/stdin
+	bash examples/run
 
 # The gate.
 test:
@@ -20,5 +15,4 @@ bench:
 
 # The translation in a real solver: clingo counts the plans of source 004's elevator with our rules, beside that paper's Table 3.
 outside:
-	rt check print
-	python3 outside/run
+	bash outside/run

@@ -10,14 +10,14 @@ mod cells;
 mod counts;
 mod formulas;
 mod inputs;
-mod valued;
+mod library;
 
 use cells::random_cells;
 use counts::Counts;
 use formulas::*;
-use inputs::{damaged, hex, Framed, Random};
+use inputs::{damaged, hex, Random};
+use library::{Lent, Library, Service};
 use std::process::exit;
-use valued::{pasturequill_value, Valued};
 
 /// Room for instants.
 const MOST: usize = 32;
@@ -217,6 +217,12 @@ fn refusal(input: &Input) -> u8 {
     0
 }
 
+/// The answer of pasturequill_value.
+struct Valued {
+    refusal: u8,
+    value: u8,
+}
+
 /// What must come back, and what must then be in the table's first bytes.
 struct Expected {
     valued: Valued,
@@ -335,30 +341,14 @@ fn random_input(random: &mut Random) -> Input {
 // ---- the call
 
 /// Calls the library on an input and says what is wrong with the outcome, if anything is.
-fn difference(random: &mut Random, input: &Input, expected: &Expected) -> Option<String> {
-    let mut records = Framed::holding(random, &input.formula.records);
-    let mut cells = Framed::holding(random, &input.cells);
-    let mut table = Framed::new(random, input.room, Random::byte);
-
-    // SAFETY: each pointer is that of as many bytes as its size says, and the table's are lent to nothing else.
-    let got = unsafe {
-        pasturequill_value(
-            records.pointer(),
-            records.size,
-            input.formula.atoms,
-            input.instants,
-            cells.pointer(),
-            cells.size,
-            table.pointer(),
-            table.size,
-        )
-    };
-
-    if got != expected.valued {
-        return Some(format!("{got:?}, expected {:?}", expected.valued));
-    }
-    let in_records = || records.difference("record byte", &[]);
-    table.difference("table byte", &expected.written).or_else(in_records).or_else(|| cells.difference("cell", &[]))
+fn difference(library: &mut Library, random: &mut Random, input: &Input, expected: &Expected) -> Option<String> {
+    let Valued { refusal, value } = expected.valued;
+    let lent = [
+        Lent::to_read("records", &input.formula.records),
+        Lent::to_read("cells", &input.cells),
+        Lent::to_write("table", random, input.room, &expected.written),
+    ];
+    library.difference(Service::Value, [input.formula.atoms, input.instants], &lent, &[refusal.into(), value.into()])
 }
 
 // ---- the run
@@ -429,6 +419,7 @@ impl Seen {
 const INPUTS: usize = 100_000;
 
 fn main() {
+    let mut library = Library::started();
     let mut random = Random::seeded();
     let mut seen = Seen::new();
     let counts = Counts::of("compare", INPUTS, |i| {
@@ -439,7 +430,7 @@ fn main() {
         };
         let expected = expected(&input);
         seen.count(&input, &expected);
-        let what = difference(&mut random, &input, &expected)?;
+        let what = difference(&mut library, &mut random, &input, &expected)?;
         let Input { formula, instants, cells, room } = input;
         let (atoms, records, cells, written) = (formula.atoms, hex(&formula.records), hex(&cells), hex(&expected.written));
         Some(format!(

@@ -8,12 +8,14 @@ mod counted;
 mod counts;
 mod formulas;
 mod inputs;
+mod library;
 mod seen;
 
-use counted::{counted_difference, outcome, scattered_input, take_room, Counted, Input};
+use counted::{outcome, scattered_input, take_room, Input};
 use counts::Counts;
 use formulas::*;
-use inputs::{damaged, hex, Framed, Random};
+use inputs::{damaged, hex, Random};
+use library::{Lent, Library, Service};
 use seen::Seen;
 use std::process::exit;
 
@@ -262,38 +264,38 @@ fn random_input(random: &mut Random) -> Input {
 
 // ---- the calls
 
-extern "C" {
-    fn pasturequill_check(records: *const u8, records_size: usize, atoms: u64) -> u8;
-    fn pasturequill_expand(records: *const u8, records_size: usize, atoms: u64, out: *mut u8, out_size: usize) -> Counted;
-}
-
-/// Calls the library on an input and says what is wrong with the outcome, if anything is.
-fn difference(random: &mut Random, input: &Input, expected: &Expected) -> Option<String> {
-    let out = Framed::new(random, input.room, Random::byte);
-    let wrong = counted_difference(random, pasturequill_expand, input, out, expected.refusal, &expected.written);
-    match (wrong, expected.refusal) {
-        (None, 0) => unsettled(&expected.written, input.formula.atoms),
-        (wrong, _) => wrong,
-    }
+/// Expands records in so much room and says what is wrong with the outcome, if anything is.
+fn expand_difference(
+    library: &mut Library,
+    random: &mut Random,
+    formula: (&[u8], u64),
+    room: usize,
+    refusal: u8,
+    written: &[u8],
+) -> Option<String> {
+    let (records, atoms) = formula;
+    let lent = [Lent::to_read("records", records), Lent::to_write("output", random, room, written)];
+    library.difference(Service::Expand, [atoms, 0], &lent, &[refusal.into(), (written.len() / 6) as u64])
 }
 
 /// Says what is wrong with records that came out, if anything is: they are a formula, and expand to themselves.
-fn unsettled(core: &[u8], atoms: u64) -> Option<String> {
-    let mut again = vec![0; core.len()];
-    // SAFETY: each pointer is that of as many bytes as its size says.
-    let (checked, expanded) = unsafe {
-        (
-            pasturequill_check(core.as_ptr(), core.len(), atoms),
-            pasturequill_expand(core.as_ptr(), core.len(), atoms, again.as_mut_ptr(), again.len()),
-        )
-    };
-    if checked != 0 {
-        return Some(format!("checking what came out gives {checked}"));
+fn unsettled(library: &mut Library, random: &mut Random, core: &[u8], atoms: u64) -> Option<String> {
+    let checked = library.difference(Service::Check, [atoms, 0], &[Lent::to_read("records", core)], &[0]);
+    if let Some(what) = checked {
+        return Some(format!("checking what came out: {what}"));
     }
-    if expanded.refusal != 0 || again != core {
-        return Some("what came out expands to something else".to_string());
+    let expanded = expand_difference(library, random, (core, atoms), core.len(), 0, core);
+    expanded.map(|what| format!("expanding what came out: {what}"))
+}
+
+/// Calls the library on an input and says what is wrong with the outcome, if anything is.
+fn difference(library: &mut Library, random: &mut Random, input: &Input, expected: &Expected) -> Option<String> {
+    let (atoms, written) = (input.formula.atoms, &expected.written);
+    let wrong = expand_difference(library, random, (&input.formula.records, atoms), input.room, expected.refusal, written);
+    match (wrong, expected.refusal) {
+        (None, 0) => unsettled(library, random, written, atoms),
+        (wrong, _) => wrong,
     }
-    None
 }
 
 // ---- the run
@@ -411,6 +413,7 @@ const NAME: &str = "compare the expander";
 const INPUTS: usize = 80_000;
 
 fn main() {
+    let mut library = Library::started();
     let mut random = Random::seeded();
     let mut seen = Seen::default();
     let counts = Counts::of(NAME, INPUTS, |i| {
@@ -428,7 +431,7 @@ fn main() {
         };
         let expected = expected(&input);
         count_outcome(&mut seen, &input, &expected);
-        let what = difference(&mut random, &input, &expected)?;
+        let what = difference(&mut library, &mut random, &input, &expected)?;
         let Input { formula, room } = input;
         Some(format!("{what}\n  records {}\n  atoms {}, room for {room} bytes", hex(&formula.records), formula.atoms))
     });

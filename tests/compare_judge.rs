@@ -7,12 +7,14 @@
 mod cells;
 mod counts;
 mod inputs;
+mod library;
 mod rules;
 mod seen;
 
 use cells::random_cells;
 use counts::Counts;
-use inputs::{damaged, hex, Framed, Random};
+use inputs::{damaged, hex, Random};
+use library::{Lent, Library, Service};
 use rules::*;
 use seen::Seen;
 use std::process::exit;
@@ -100,8 +102,8 @@ fn causes(input: &Input) -> Vec<Cause> {
     found.iter().filter(|(_, there)| *there).map(|&(cause, _)| cause).collect()
 }
 
-#[repr(C)]
-#[derive(Clone, Copy, PartialEq, Debug)]
+/// The answer of pasturequill_judge.
+#[derive(Clone, Copy)]
 struct Judged {
     refusal: u8,
     holds: u8,
@@ -386,29 +388,11 @@ fn random_input(random: &mut Random) -> Input {
 
 // ---- the call
 
-extern "C" {
-    fn pasturequill_judge(
-        rules: *const u16,
-        rules_size: usize,
-        width: u64,
-        instants: u64,
-        cells: *const u8,
-        cells_size: usize,
-    ) -> Judged;
-}
-
 /// Calls the library on an input and says what is wrong with the outcome, if anything is.
-fn difference(random: &mut Random, input: &Input, expected: Judged) -> Option<String> {
-    let mut rules = Framed::holding(random, &input.rules);
-    let mut cells = Framed::holding(random, &input.cells);
-
-    // SAFETY: each pointer is that of as many elements as its size says.
-    let got = unsafe { pasturequill_judge(rules.pointer(), rules.size, input.width, input.instants, cells.pointer(), cells.size) };
-
-    if got != expected {
-        return Some(format!("{got:?}, expected {expected:?}"));
-    }
-    rules.difference("word", &[]).or_else(|| cells.difference("cell", &[]))
+fn difference(library: &mut Library, input: &Input, expected: Judged) -> Option<String> {
+    let Judged { refusal, holds, rule, instant } = expected;
+    let lent = [Lent::to_read("rules", &as_bytes(&input.rules)), Lent::to_read("cells", &input.cells)];
+    library.difference(Service::Judge, [input.width, input.instants], &lent, &[refusal.into(), holds.into(), rule, instant])
 }
 
 // ---- the run
@@ -499,6 +483,7 @@ const NAME: &str = "compare the judge";
 const INPUTS: usize = 60_000;
 
 fn main() {
+    let mut library = Library::started();
     let mut random = Random::seeded();
     let mut seen = Seen::default();
     let counts = Counts::of(NAME, INPUTS, |_| {
@@ -506,7 +491,7 @@ fn main() {
         let causes = causes(&input);
         let expected = expected(&input, &causes);
         count_outcome(&mut seen, &input, &causes, expected);
-        let what = difference(&mut random, &input, expected)?;
+        let what = difference(&mut library, &input, expected)?;
         let Input { rules, width, instants, cells } = input;
         Some(format!("{what}\n  rules {rules:?}\n  width {width}, instants {instants}, cells {}", hex(&cells)))
     });

@@ -12,19 +12,19 @@ mod counted;
 mod counts;
 mod formulas;
 mod inputs;
+mod library;
 mod rules;
 mod seen;
-mod valued;
 
 use cells::random_cells;
-use counted::{counted_difference, outcome, scattered_input, take_room, Counted, Input};
+use counted::{outcome, scattered_input, take_room, Input};
 use counts::Counts;
 use formulas::*;
-use inputs::{damaged, hex, Framed, Random};
+use inputs::{damaged, hex, Random};
+use library::{Lent, Library, Service};
 use rules::*;
 use seen::Seen;
 use std::process::exit;
-use valued::pasturequill_value;
 
 // ---- the translation (document 01, Translation)
 
@@ -250,14 +250,13 @@ fn random_input(random: &mut Random) -> Input {
 
 // ---- the call
 
-extern "C" {
-    fn pasturequill_translate(records: *const u8, records_size: usize, atoms: u64, rules: *mut u16, rules_size: usize) -> Counted;
-}
-
 /// Calls the library on an input and says what is wrong with the outcome, if anything is.
-fn difference(random: &mut Random, input: &Input, expected: &Expected) -> Option<String> {
-    let rules = Framed::new(random, input.room, |random| u16::from_le_bytes([random.byte(), random.byte()]));
-    counted_difference(random, pasturequill_translate, input, rules, expected.refusal, &expected.written)
+fn difference(library: &mut Library, random: &mut Random, input: &Input, expected: &Expected) -> Option<String> {
+    let Expected { refusal, written } = expected;
+    let words = as_bytes(written);
+    let lent = [Lent::to_read("records", &input.formula.records), Lent::to_write("rules", random, 2 * input.room, &words)];
+    let count = written.len() / RULE_SIZE;
+    library.difference(Service::Translate, [input.formula.atoms, 0], &lent, &[(*refusal).into(), count as u64])
 }
 
 // ---- fillings of the labels
@@ -335,38 +334,25 @@ fn fillings(formula: &Formula, instants: usize, atom_cells: &[u8], rules: &[u16]
     search.found
 }
 
-/// The rules that the library writes for an accepted formula.
-fn library_rules(formula: &Formula) -> Vec<u16> {
-    let mut rules = vec![0; RULE_SIZE * (4 * formula.count() + 1)];
-    // SAFETY: each pointer is that of as many elements as its size says.
-    let got = unsafe {
-        pasturequill_translate(formula.records.as_ptr(), formula.records.len(), formula.atoms, rules.as_mut_ptr(), rules.len())
-    };
-    rules.truncate(RULE_SIZE * got.count as usize);
-    rules
+/// The rules that the library writes for a formula; none where it refuses.
+fn library_rules(library: &mut Library, formula: &Formula) -> Result<Vec<u16>, String> {
+    let room = vec![0; 2 * RULE_SIZE * (4 * formula.count() + 1)];
+    let outcome = library.call(Service::Translate, [formula.atoms, 0], &[&formula.records, &room])?;
+    let words = outcome.slices[1].chunks_exact(2).map(|bytes| u16::from_le_bytes([bytes[0], bytes[1]]));
+    Ok(words.take(RULE_SIZE * outcome.results[1] as usize).collect())
 }
 
 /// What the rules of a formula say over a trace that is not so, if anything; else the formula's value.
-fn unmeant(formula: &Formula, instants: usize, cells: &[u8]) -> Result<u8, String> {
+fn unmeant(library: &mut Library, formula: &Formula, instants: usize, cells: &[u8]) -> Result<u64, String> {
     let n = formula.count();
-    let mut table = vec![9; n * instants];
-    // SAFETY: each pointer is that of as many elements as its size says.
-    let valued = unsafe {
-        pasturequill_value(
-            formula.records.as_ptr(),
-            formula.records.len(),
-            formula.atoms,
-            instants as u64,
-            cells.as_ptr(),
-            cells.len(),
-            table.as_mut_ptr(),
-            table.len(),
-        )
-    };
-    if valued.refusal != 0 {
-        return Err(format!("valuing refuses it with {}", valued.refusal));
+    let room = vec![9; n * instants];
+    let valued = library.call(Service::Value, [formula.atoms, instants as u64], &[&formula.records, cells, &room])?;
+    let [refusal, value, ..] = valued.results;
+    let table = &valued.slices[2];
+    if refusal != 0 {
+        return Err(format!("valuing refuses it with {refusal}"));
     }
-    let rules = library_rules(formula);
+    let rules = library_rules(library, formula)?;
     if rules.len() < RULE_SIZE {
         return Err("no rules".to_string());
     }
@@ -384,10 +370,10 @@ fn unmeant(formula: &Formula, instants: usize, cells: &[u8]) -> Result<u8, Strin
         }
     }
     let all = fillings(formula, instants, cells, &rules).len();
-    if all != (valued.value == 2) as usize {
-        return Err(format!("{all} fillings meet all rules, where the value is {}", valued.value));
+    if all != (value == 2) as usize {
+        return Err(format!("{all} fillings meet all rules, where the value is {value}"));
     }
-    Ok(valued.value)
+    Ok(value)
 }
 
 // ---- the run
@@ -461,7 +447,7 @@ const INPUTS: usize = 60_000;
 const SMALL: usize = 12_000;
 
 /// Random inputs, word for word.
-fn compare_words(random: &mut Random) -> bool {
+fn compare_words(library: &mut Library, random: &mut Random) -> bool {
     const NAME: &str = "compare the translator";
     let mut seen = Seen::default();
     let counts = Counts::of(NAME, INPUTS, |i| {
@@ -475,7 +461,7 @@ fn compare_words(random: &mut Random) -> bool {
         };
         let expected = expected(&input);
         count_outcome(&mut seen, &input, &expected);
-        let what = difference(random, &input, &expected)?;
+        let what = difference(library, random, &input, &expected)?;
         let Input { formula, room } = input;
         Some(format!("{what}\n  records {}\n  atoms {}, room for {room} words", hex(&formula.records), formula.atoms))
     });
@@ -490,7 +476,7 @@ fn compare_words(random: &mut Random) -> bool {
 }
 
 /// Small formulas, by what their rules say.
-fn compare_meaning(random: &mut Random) -> bool {
+fn compare_meaning(library: &mut Library, random: &mut Random) -> bool {
     const NAME: &str = "compare the rules";
     let mut seen = Seen::default();
     let counts = Counts::of(NAME, SMALL, |_| {
@@ -501,7 +487,7 @@ fn compare_meaning(random: &mut Random) -> bool {
         let cells = random_cells(random, atoms, instants);
         count_kinds(&mut seen, &formula);
         seen.add(format!("{instants} instants"), true);
-        match unmeant(&formula, instants, &cells) {
+        match unmeant(library, &formula, instants, &cells) {
             Ok(value) => {
                 seen.add(format!("value {value}"), true);
                 None
@@ -521,9 +507,10 @@ fn compare_meaning(random: &mut Random) -> bool {
 }
 
 fn main() {
+    let mut library = Library::started();
     let mut random = Random::seeded();
-    let words = compare_words(&mut random);
-    let meaning = compare_meaning(&mut random);
+    let words = compare_words(&mut library, &mut random);
+    let meaning = compare_meaning(&mut library, &mut random);
     if !words || !meaning {
         exit(1);
     }

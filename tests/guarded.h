@@ -12,23 +12,33 @@
 
 enum guarded_edge { GUARDED_AT_END, GUARDED_AT_START };
 
+static inline void guarded_must(int fine)
+{
+    if (!fine) {
+        perror("guarded");
+        exit(2);
+    }
+}
+
+/* Pages of so many bytes, a multiple of a page's, with an untouchable page before and after them. */
+static inline uint8_t *guarded_pages(size_t size)
+{
+    size_t page = (size_t)sysconf(_SC_PAGESIZE);
+    uint8_t *base = mmap(NULL, size + 2 * page, PROT_NONE, MAP_PRIVATE | MAP_ANONYMOUS, -1, 0);
+    guarded_must(base != MAP_FAILED && mprotect(base + page, size, PROT_READ | PROT_WRITE) == 0);
+    return base + page;
+}
+
 /* A copy of `size` bytes in pages of its own with this protection, untouchable pages around. It is kept until the test ends. */
-static uint8_t *guarded_copy(const uint8_t *bytes, size_t size, enum guarded_edge edge, int protection)
+static inline uint8_t *guarded_copy(const uint8_t *bytes, size_t size, enum guarded_edge edge, int protection)
 {
     size_t page = (size_t)sysconf(_SC_PAGESIZE);
     size_t inner = (size / page + 1) * page;
-    uint8_t *base = mmap(NULL, inner + 2 * page, PROT_NONE, MAP_PRIVATE | MAP_ANONYMOUS, -1, 0);
-    if (base == MAP_FAILED || mprotect(base + page, inner, PROT_READ | PROT_WRITE) != 0) {
-        perror("guarded");
-        exit(2);
-    }
-    uint8_t *at = edge == GUARDED_AT_END ? base + page + inner - size : base + page;
+    uint8_t *start = guarded_pages(inner);
+    uint8_t *at = edge == GUARDED_AT_END ? start + inner - size : start;
     if (size != 0)
         memcpy(at, bytes, size);
-    if (mprotect(base + page, inner, protection) != 0) {
-        perror("guarded");
-        exit(2);
-    }
+    guarded_must(mprotect(start, inner, protection) == 0);
     return at;
 }
 

@@ -1,6 +1,4 @@
-//! What all comparisons share: random numbers from a fixed seed, harm to an input, slices with other memory around them, bytes in print.
-
-use std::fmt::Display;
+//! What all comparisons share: random numbers from a fixed seed, harm to an input, bytes in print.
 
 /// Random numbers (splitmix64), the same in every run.
 pub struct Random(u64);
@@ -31,42 +29,6 @@ impl Random {
     }
     pub fn byte(&mut self) -> u8 {
         self.next() as u8
-    }
-}
-
-/// Bytes or words at a random distance from the start of their memory, with others around them; and what the memory held before a call.
-pub struct Framed<T> {
-    memory: Vec<T>,
-    before: Vec<T>,
-    start: usize,
-    pub size: usize,
-}
-
-const AROUND: usize = 64;
-
-impl<T: Copy + PartialEq + Display + From<u8>> Framed<T> {
-    /// So many elements, all of them drawn.
-    pub fn new(random: &mut Random, size: usize, draw: impl Fn(&mut Random) -> T) -> Framed<T> {
-        let before: Vec<T> = (0..size + 2 * AROUND).map(|_| draw(random)).collect();
-        Framed { memory: before.clone(), before, start: random.below(AROUND), size }
-    }
-    pub fn holding(random: &mut Random, held: &[T]) -> Framed<T> {
-        let mut framed = Framed::new(random, held.len(), |random| T::from(random.byte()));
-        framed.before[framed.start..framed.start + held.len()].copy_from_slice(held);
-        framed.memory.clone_from(&framed.before);
-        framed
-    }
-    /// That of the first element, of which there are `size`.
-    pub fn pointer(&mut self) -> *mut T {
-        self.memory[self.start..self.start + self.size].as_mut_ptr()
-    }
-    /// What is wrong after a call, if anything is: what was written stands at the start, and all else is as before.
-    pub fn difference(&self, name: &str, written: &[T]) -> Option<String> {
-        let mut wanted = self.before.clone();
-        wanted[self.start..self.start + written.len()].copy_from_slice(written);
-        let at = (0..wanted.len()).find(|&at| self.memory[at] != wanted[at])?;
-        let place = at as isize - self.start as isize;
-        Some(format!("{name} {place} of {} is {}, expected {}", self.size, self.memory[at], wanted[at]))
     }
 }
 

@@ -3,20 +3,9 @@
 #define ROOM_H
 
 #include "counts.h"
+#include "fresh.h"
 #include "guarded.h"
 #include "slices.h"
-
-/* A byte of fresh room: never a value or a kind, two of them never a literal of a translation, and not the same everywhere. */
-static inline uint8_t fresh_byte(size_t at)
-{
-    return 0xc0 | at % 61;
-}
-
-static inline void make_fresh(void *room, size_t size)
-{
-    for (size_t at = 0; at < size; at++)
-        ((uint8_t *)room)[at] = fresh_byte(at);
-}
 
 /* Fresh room of so many bytes, up to 13,000. */
 static inline uint8_t *guarded_fresh(size_t size, enum guarded_edge edge)

@@ -59,3 +59,8 @@ pub fn holds_at(width: usize, cells: &[u8], rule: &[u16], k: usize) -> bool {
     let (body, head) = values.split_at(2);
     imp(*body.iter().min().expect("two"), *head.iter().max().expect("three")) == 2
 }
+
+/// Words as they stand in memory.
+pub fn as_bytes(words: &[u16]) -> Vec<u8> {
+    words.iter().flat_map(|word| word.to_le_bytes()).collect()
+}

@@ -1,0 +1,130 @@
+//! The library, which is a process of its own (server.c): it is made for x86-64, and a comparison for the machine that it runs on.
+//!
+//! Every slice of a call ends at memory that may not be touched and has known bytes in front, so that no write beside it goes unseen.
+#![allow(dead_code)] // No comparison needs all of it.
+
+use crate::inputs::Random;
+use std::env::args;
+use std::io::{self, BufReader, BufWriter, Read, Write};
+use std::process::{Child, ChildStdin, ChildStdout, Command, Stdio};
+
+/// The services, numbered as server.c has them.
+#[derive(Clone, Copy)]
+pub enum Service {
+    Check,
+    Expand,
+    Value,
+    Translate,
+    Judge,
+}
+
+const SLICES: usize = 3;
+const RESULTS: usize = 4;
+
+/// What came of a call: the numbers that were given back, and what each slice holds after it.
+pub struct Outcome {
+    pub results: [u64; RESULTS],
+    pub slices: Vec<Vec<u8>>,
+}
+
+/// A slice that is lent to a call: what it holds before, and what must have been written to its start; all else must stay.
+pub struct Lent<'a> {
+    name: &'static str,
+    before: Vec<u8>,
+    written: &'a [u8],
+}
+
+impl<'a> Lent<'a> {
+    /// A slice that is only read.
+    pub fn to_read(name: &'static str, bytes: &[u8]) -> Lent<'a> {
+        Lent { name, before: bytes.to_vec(), written: &[] }
+    }
+    /// Room of so many bytes, all of them drawn.
+    pub fn to_write(name: &'static str, random: &mut Random, size: usize, written: &'a [u8]) -> Lent<'a> {
+        Lent { name, before: (0..size).map(|_| random.byte()).collect(), written }
+    }
+    fn difference(&self, after: &[u8]) -> Option<String> {
+        let wanted = [self.written, &self.before[self.written.len()..]].concat();
+        let at = (0..wanted.len()).find(|&at| after[at] != wanted[at])?;
+        Some(format!("byte {at} of {} of the {} is {}, expected {}", wanted.len(), self.name, after[at], wanted[at]))
+    }
+}
+
+pub struct Library {
+    process: Child,
+    requests: BufWriter<ChildStdin>,
+    answers: BufReader<ChildStdout>,
+}
+
+impl Library {
+    /// Starts the process. Its command is the arguments of this program.
+    pub fn started() -> Library {
+        let words: Vec<String> = args().skip(1).collect();
+        let (program, others) = words.split_first().expect("the arguments are the command that starts the library's process");
+        let mut process = Command::new(program)
+            .args(others)
+            .stdin(Stdio::piped())
+            .stdout(Stdio::piped())
+            .spawn()
+            .unwrap_or_else(|error| panic!("{program}: {error}"));
+        let requests = BufWriter::new(process.stdin.take().expect("its input is a pipe"));
+        let answers = BufReader::new(process.stdout.take().expect("its output is a pipe"));
+        Library { process, requests, answers }
+    }
+
+    fn number(&mut self) -> io::Result<u64> {
+        let mut bytes = [0; 8];
+        self.answers.read_exact(&mut bytes)?;
+        Ok(u64::from_le_bytes(bytes))
+    }
+
+    /// The outcome, and how many slices were written in front of.
+    fn exchange(&mut self, service: Service, numbers: [u64; 2], slices: &[&[u8]]) -> io::Result<(Outcome, u64)> {
+        let mut sizes = [0; SLICES];
+        slices.iter().enumerate().for_each(|(i, slice)| sizes[i] = slice.len());
+        let words = [service as u64].into_iter().chain(numbers).chain(sizes.map(|size| size as u64));
+        for word in words {
+            self.requests.write_all(&word.to_le_bytes())?;
+        }
+        for slice in slices {
+            self.requests.write_all(slice)?;
+        }
+        self.requests.flush()?;
+
+        let mut results = [0; RESULTS];
+        for result in &mut results {
+            *result = self.number()?;
+        }
+        let beside = self.number()?;
+        let mut after = vec![];
+        for slice in slices {
+            let mut bytes = vec![0; slice.len()];
+            self.answers.read_exact(&mut bytes)?;
+            after.push(bytes);
+        }
+        Ok((Outcome { results, slices: after }, beside))
+    }
+
+    /// Calls a service: its numbers and slices in the order of its declaration, 0 for a number that it does not take.
+    pub fn call(&mut self, service: Service, numbers: [u64; 2], slices: &[&[u8]]) -> Result<Outcome, String> {
+        match self.exchange(service, numbers, slices) {
+            Err(_) => Err(format!("the library's process ended: {:?}", self.process.wait())),
+            Ok((_, beside)) if beside != 0 => Err(format!("{beside} slices have other bytes in front of them now")),
+            Ok((outcome, _)) => Ok(outcome),
+        }
+    }
+
+    /// Says what is wrong with the outcome of a call, if anything is.
+    pub fn difference(&mut self, service: Service, numbers: [u64; 2], lent: &[Lent], expected: &[u64]) -> Option<String> {
+        let slices: Vec<&[u8]> = lent.iter().map(|slice| &slice.before[..]).collect();
+        let outcome = match self.call(service, numbers, &slices) {
+            Err(what) => return Some(what),
+            Ok(outcome) => outcome,
+        };
+        let got = &outcome.results[..expected.len()];
+        if got != expected {
+            return Some(format!("gives {got:?}, expected {expected:?}"));
+        }
+        lent.iter().zip(&outcome.slices).find_map(|(slice, after)| slice.difference(after))
+    }
+}
