@@ -25,7 +25,8 @@ else
         [ -e "$cross/include/stdio.h" ] || missing+=(libc6-dev-amd64-cross)
     fi
     if [ -z "${RUNNER+given}" ]; then
-        RUNNER="qemu-x86_64 -L $cross"
+        # The loader and the C library are to come from one package, also where the machine has others for x86-64.
+        RUNNER="qemu-x86_64 -L $cross -E LD_LIBRARY_PATH=$cross/lib"
         command -v qemu-x86_64 >/dev/null || missing+=(qemu-user)
         [ -e "$cross/lib64/ld-linux-x86-64.so.2" ] || missing+=(libc6-amd64-cross)
     fi
