@@ -19,8 +19,6 @@ use Rattle.meaning.proofs.Stores.{sets-append, sets-written}
 use Rattle.records.specs.Code.{modeOf}
 use Rattle.translate.specs.Contexts.{Moded}
 use Rattle.translate.specs.Rows.{Rowed, Put, ruleOf, rulesIn}
-use Rattle.translate.specs.declared.row.Row.{Row}
-use Rattle.translate.specs.declared.row.Rows.{Rows}
 use Rattle.translate.proofs.Rowing.{record-counts}
 
 -- ---- words
@@ -56,29 +54,33 @@ module _ {old mid : List ℕ} {at e : ℕ} {ρs : List Rule} (p : Put old at ρs
       }
 
 -- ---- rows
-pub rules-length : (rows : List Row) (n : ℕ) → n ≤ length rows → length (rulesIn rows n) ≡ n
+pub rules-length : (rows : List (List ℕ)) (n : ℕ) → n ≤ length rows → length (rulesIn rows n) ≡ n
 rules-length rows n h = length-map (take n rows) ruleOf ∙ length-take-le n rows h
 
 -- One row more.
-pub rules-more : (rows : List Row) (i : ℕ) (row : Row) → i < length rows
+pub rules-more : (rows : List (List ℕ)) (i : ℕ) (row : List ℕ) → i < length rows
     → rulesIn rows (i + 1) ≡ rulesIn rows i ++ (ruleOf (getD rows i row) ∷ [])
 rules-more rows i row l = rw (add-one i, take-suc rows i row l) (map-append ruleOf (take i rows) _)
 
-module _ {r : Rows} {σs : List Rule} (w : Rowed r σs) where
+-- One row more is put behind those before it.
+pub put-next : {old mid new : List ℕ} {at e f i : ℕ} (rows : List (List ℕ)) → Put old at (rulesIn rows i) e mid
+    → Put mid e (ruleOf (getD rows i []) ∷ []) f new → {n : ℕ} → i < n → n ≤ length rows → Put old at (rulesIn rows (i + 1)) f new
+put-next {i = i} rows p q l h = rw (rules-more rows i [] (omega arith)) (put-more p q)
+
+module _ {rows : List (List ℕ)} {σs : List Rule} (w : Rowed rows σs) where
   -- There are as many rows as rules.
-  pub rowed-long : r .count ≤ length (r .rows)
+  pub rowed-long : length σs ≤ length rows
   rowed-long =
-      let n = r .count in
-      let rows = take n (r .rows) in
-      omega (arith, length-take n (r .rows), length-map rows ruleOf, ap length (w .held), w .counted)
+      let n = length σs in
+      omega (arith, length-take n rows, length-map (take n rows) ruleOf, ap length (w .held))
 
   module _ {old mid : List ℕ} {at : ℕ} {ρs : List Rule} (p : Put old 0 ρs at mid) where
     -- There is room for the rows.
-    pub rowed-room : ruleSize * length (ρs ++ σs) ≤ length old → at + ruleSize * r .count ≤ length mid
-    rowed-room h = omega (arith, put-length p, p .place, length-append ρs σs, w .counted)
+    pub rowed-room : ruleSize * length (ρs ++ σs) ≤ length old → at + ruleSize * length σs ≤ length mid
+    rowed-room h = omega (arith, put-length p, p .place, length-append ρs σs)
 
     -- They follow.
-    pub rowed-more : {new : List ℕ} {e : ℕ} → Put mid at (rulesIn (r .rows) (r .count)) e new
+    pub rowed-more : {new : List ℕ} {e : ℕ} → Put mid at (rulesIn rows (length σs)) e new
         → Put old 0 (ρs ++ σs) e new
     rowed-more q = rw (w .held) at (put-more p q)
 

@@ -103,6 +103,15 @@ record-counts {s} {modes} {r} w l =
       | inr e ↦ rw (w .mode r l e, mode-again (context s r .mode))
     ]
 
+-- So many are the record's rules.
+rules-at-counted : (s : List ℕ) (A r : ℕ) → length (rulesAt s A r) ≡ ruleNumber (kindAt s r) (context s r .mode)
+unfolding rulesAt
+rules-at-counted s A r = rules-counted (kindAt s r) (context s r .mode) _ _ _ _ _
+
+pub record-counted-rows : {s modes : List ℕ} {r x : ℕ} (A : ℕ) → Moded s modes → r < count s
+    → x ≡ ruleNumber (kindAt s r) (modeOf (getD modes r 0)) → x ≡ length (rulesAt s A r)
+record-counted-rows {s} {modes} {r} A w l e = e ∙ record-counts w l ∙ sym (rules-at-counted s A r)
+
 -- The rules as the code asks for them.
 pub record-rules : {s modes conts : List ℕ} {r : ℕ} (A : ℕ) → AllHanded s modes conts → r < count s
     → rulesOf (kindAt s r) (modeOf (getD modes r 0)) (label A r) (label A (fieldA s r)) (label A (fieldB s r))

@@ -17,8 +17,6 @@ ghost use Rattle.translate.specs.Asking.{Formed, Ready};
 ghost use Rattle.translate.specs.Contexts.{AllHanded, Moded};
 ghost use Rattle.translate.specs.Rows.{Rowed, Small, Put, rulesIn, ruleOf};
 use records::layout;
-use row::Row;
-use row::Rows;
 
 // The words of a rule.
 const RULE_SIZE: usize = 6;
@@ -93,10 +91,11 @@ fn write_rules(records: &[u8], atoms: usize, modes: &[u8; 255], conts: &[u8; 255
     let mut r: usize = 0;
     while r < n {
         let rows = record_rows(records, atoms, modes, conts, r);
-        at = put_rows(out, at, rows);
+        let count = row::row_count(layout::kind_at(records, r), modes[r]);
+        at = put_rows(out, at, rows, count);
         r += 1;
     }
-    put_rows(out, at, row::assert_row(label(atoms, n - 1)));
+    put_rows(out, at, row::assert_row(label(atoms, n - 1)), 1);
 }
 
 // The symbol of record r's label.
@@ -116,7 +115,13 @@ fn cont_label(atoms: usize, c: u8) -> u16
 }
 
 // The rules of record r.
-fn record_rows(records: &[u8], atoms: usize, modes: &[u8; 255], conts: &[u8; 255], r: usize) -> Rows
+fn record_rows(
+    records: &[u8],
+    atoms: usize,
+    modes: &[u8; 255],
+    conts: &[u8; 255],
+    r: usize,
+) -> [[u16; 6]; 4]
     requires { ⌜ Ready (now records) atoms × AllHanded (now records) (now modes) (now conts) × (r < count (now records)) ⌝ }
     ensures { λ w. ⌜ Rowed w (rulesAt (now (records .entry)) atoms r) ⌝ }
 {
@@ -134,32 +139,30 @@ fn record_rows(records: &[u8], atoms: usize, modes: &[u8; 255], conts: &[u8; 255
     )
 }
 
-// Writes the rows to the output at a place, and gives the place behind them.
-fn put_rows(out: &mut [u16], at: usize, rows: Rows) -> usize
-    requires { ⌜ (rows .count ≤ 4) × (rows .count ≤ length (rows .rows)) × (at + ruleSize * rows .count ≤ length (now out)) ⌝ }
-    ensures { λ e. ⌜ Put (now (out .entry)) at (rulesIn (rows .rows) (rows .count)) e (now (out .exit)) ⌝ }
+// Writes the first rows, so many, to the output at a place, and gives the place behind them.
+fn put_rows(out: &mut [u16], at: usize, rows: [[u16; 6]; 4], count: usize) -> usize
+    requires { ⌜ (count ≤ 4) × (count ≤ length rows) × (at + ruleSize * count ≤ length (now out)) ⌝ }
+    ensures { λ e. ⌜ Put (now (out .entry)) at (rulesIn rows count) e (now (out .exit)) ⌝ }
 {
-    let all = rows.rows;
-    let count = rows.count;
     let mut end = at;
     let mut i: usize = 0;
     while i < count {
-        end = put_row(out, end, all[i]);
+        end = put_row(out, end, rows[i]);
         i += 1;
     }
     end
 }
 
 // Writes a row to the output at a place, and gives the place behind it.
-fn put_row(out: &mut [u16], at: usize, row: Row) -> usize
+fn put_row(out: &mut [u16], at: usize, row: [u16; 6]) -> usize
     requires { ⌜ at + ruleSize ≤ length (now out) ⌝ }
     ensures { λ e. ⌜ Put (now (out .entry)) at (ruleOf row ∷ []) e (now (out .exit)) ⌝ }
 {
-    out[at] = row.0;
-    out[at + 1] = row.1;
-    out[at + 2] = row.2;
-    out[at + 3] = row.3;
-    out[at + 4] = row.4;
-    out[at + 5] = row.5;
+    out[at] = row[0];
+    out[at + 1] = row[1];
+    out[at + 2] = row[2];
+    out[at + 3] = row[3];
+    out[at + 4] = row[4];
+    out[at + 5] = row[5];
     at + RULE_SIZE
 }

@@ -8,17 +8,9 @@ ghost use Rattle.meaning.specs.Translation.{rulesOf, sameRules, edgeRule, joinR
 ghost use Rattle.records.specs.Code.{modeOf, wayOf};
 ghost use Rattle.translate.specs.Rows.{Rowed, Small, edgeBody, edgeHead};
 
-// A rule's words: its place, two of its body and three of its head. One that it leaves unused is 1 in the body, 0 in the head.
-pub struct Row(pub u16, pub u16, pub u16, pub u16, pub u16, pub u16);
-
-// The first rows, as many as count says, are the rules.
-pub struct Rows {
-    pub rows: [Row; 4],
-    pub count: usize,
-}
-
-// A row behind the rules.
-const NO_RULE: Row = Row(0, 0, 0, 0, 0, 0);
+// A record's rules are rows of six words: the place, two words of the body, three of the head. An unused word is 1 in the body, 0 in the head.
+// The first row_count rows are rules; the rest are NO_RULE.
+const NO_RULE: [u16; 6] = [0, 0, 0, 0, 0, 0];
 
 // What a word adds for the previous instant, and for negation.
 const PREVIOUS: u16 = 16384;
@@ -26,71 +18,53 @@ const PREVIOUS: u16 = 16384;
 const NEGATED: u16 = 32768;
 
 // u and v have the same value.
-fn same_rows(u: u16, v: u16) -> Rows
+fn same_rows(u: u16, v: u16) -> [[u16; 6]; 4]
     ensures { λ r. ⌜ Rowed r (sameRules 0 u v) ⌝ }
 {
-    Rows {
-        rows: [
-            Row(0, u, 1, v, 0, 0),
-            Row(0, v, 1, u, 0, 0),
-            NO_RULE,
-            NO_RULE,
-        ],
-        count: 2,
-    }
+    [[0, u, 1, v, 0, 0], [0, v, 1, u, 0, 0], NO_RULE, NO_RULE]
 }
 
 // x is the greater of u and v under a diamond, kind 3, the smaller under a box.
-fn join_rows(mode: u8, x: u16, u: u16, v: u16) -> Rows
+fn join_rows(mode: u8, x: u16, u: u16, v: u16) -> [[u16; 6]; 4]
     ensures { λ r. ⌜ Rowed r (joinRules (modeOf mode) x u v) ⌝ }
 {
     if mode == 3 {
-        return Rows {
-            rows: [
-                Row(0, x, 1, u, v, 0),
-                Row(0, u, 1, x, 0, 0),
-                Row(0, v, 1, x, 0, 0),
-                NO_RULE,
-            ],
-            count: 3,
-        };
-    }
-    Rows {
-        rows: [
-            Row(0, x, 1, u, 0, 0),
-            Row(0, x, 1, v, 0, 0),
-            Row(0, u, v, x, 0, 0),
+        return [
+            [0, x, 1, u, v, 0],
+            [0, u, 1, x, 0, 0],
+            [0, v, 1, x, 0, 0],
             NO_RULE,
-        ],
-        count: 3,
+        ];
     }
+    [
+        [0, x, 1, u, 0, 0],
+        [0, x, 1, v, 0, 0],
+        [0, u, v, x, 0, 0],
+        NO_RULE,
+    ]
 }
 
 // x is c behind the test of a.
-fn test_rows(mode: u8, x: u16, a: u16, c: u16) -> Rows
+fn test_rows(mode: u8, x: u16, a: u16, c: u16) -> [[u16; 6]; 4]
     requires { ⌜ Small a × Small c ⌝ }
     ensures { λ r. ⌜ Rowed r (testRules (modeOf mode) x a c) ⌝ }
 {
     if mode == 3 {
-        return Rows {
-            rows: [
-                Row(0, x, 1, a, 0, 0),
-                Row(0, x, 1, c, 0, 0),
-                Row(0, a, c, x, 0, 0),
-                NO_RULE,
-            ],
-            count: 3,
-        };
+        return [
+            [0, x, 1, a, 0, 0],
+            [0, x, 1, c, 0, 0],
+            [0, a, c, x, 0, 0],
+            NO_RULE,
+        ];
     }
-    Rows {
-        rows: [
-            Row(0, x, a, c, 0, 0),
-            Row(0, a + NEGATED, 1, x, 0, 0),
-            Row(0, c, 1, x, 0, 0),
-            Row(0, 1, 1, x, a, c + NEGATED),
-        ],
-        count: 4,
-    }
+    let not_a = a + NEGATED;
+    let not_c = c + NEGATED;
+    [
+        [0, x, a, c, 0, 0],
+        [0, not_a, 1, x, 0, 0],
+        [0, c, 1, x, 0, 0],
+        [0, 1, 1, x, a, not_c],
+    ]
 }
 
 // The edge rule's body and head: under a diamond x and nothing, under a box nothing and x.
@@ -113,24 +87,21 @@ fn edge_head(mode: u8, x: u16) -> u16
 }
 
 // u and v have the same value at all instants but the first, and x its edge at the place.
-fn moving_rows(u: u16, v: u16, mode: u8, place: u16, x: u16) -> Rows
+fn moving_rows(u: u16, v: u16, mode: u8, place: u16, x: u16) -> [[u16; 6]; 4]
     ensures { λ r. ⌜ Rowed r (sameRules 2 u v ++ (edgeRule (modeOf mode) place x ∷ [])) ⌝ }
 {
     let body = edge_body(mode, x);
     let head = edge_head(mode, x);
-    Rows {
-        rows: [
-            Row(2, u, 1, v, 0, 0),
-            Row(2, v, 1, u, 0, 0),
-            Row(place, body, 1, head, 0, 0),
-            NO_RULE,
-        ],
-        count: 3,
-    }
+    [
+        [2, u, 1, v, 0, 0],
+        [2, v, 1, u, 0, 0],
+        [place, body, 1, head, 0, 0],
+        NO_RULE,
+    ]
 }
 
 // x is what c is an instant later, way 5, or earlier; at the end of the trace a diamond is false and a box true.
-fn move_rows(way: u8, mode: u8, x: u16, c: u16) -> Rows
+fn move_rows(way: u8, mode: u8, x: u16, c: u16) -> [[u16; 6]; 4]
     requires { ⌜ Small x × Small c ⌝ }
     ensures { λ r. ⌜ Rowed r (moveRules (wayOf way) (modeOf mode) x c) ⌝ }
 {
@@ -141,7 +112,7 @@ fn move_rows(way: u8, mode: u8, x: u16, c: u16) -> Rows
 }
 
 // The rules of a record of a core kind: x is its label, a and b its children's, c its continuation's, i its field a.
-pub fn rows_of(kind: u8, mode: u8, x: u16, a: u16, b: u16, c: u16, i: u16) -> Rows
+pub fn rows_of(kind: u8, mode: u8, x: u16, a: u16, b: u16, c: u16, i: u16) -> [[u16; 6]; 4]
     requires { ⌜ (kind < 11) × Small x × Small a × Small c × Small i ⌝ }
     ensures { λ r. ⌜ Rowed r (rulesOf (kindOf kind) (modeOf mode) x a b c i) ⌝ }
 {
@@ -177,11 +148,8 @@ pub fn row_count(kind: u8, mode: u8) -> usize
 }
 
 // The rule that asserts the label x at the first instant.
-pub fn assert_row(x: u16) -> Rows
+pub fn assert_row(x: u16) -> [[u16; 6]; 4]
     ensures { λ r. ⌜ Rowed r (rule 1 [] (x ∷ []) ∷ []) ⌝ }
 {
-    Rows {
-        rows: [Row(1, 1, 1, x, 0, 0), NO_RULE, NO_RULE, NO_RULE],
-        count: 1,
-    }
+    [[1, 1, 1, x, 0, 0], NO_RULE, NO_RULE, NO_RULE]
 }

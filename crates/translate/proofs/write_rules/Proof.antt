@@ -8,7 +8,9 @@ use Rattle.meaning.specs.Record.{count}
 use Rattle.meaning.specs.Translation.{rulesAt}
 use Rattle.meaning.proofs.RuleCount.{record-few}
 use Rattle.meaning.proofs.Runs.{each-more}
+use lib.ListN.{length}
 use Rattle.translate.specs.Rows.{Put}
+use Rattle.translate.proofs.Rowing.{core-kind, record-counted-rows, handed-moded}
 use Rattle.translate.proofs.Appending.{put-none, put-length, rowed-long, rowed-room, rowed-more}
 use Rattle.translate.proofs.Appending.{room-more, room-last, put-all}
 use Rattle.translate.proofs.write_rules.Statement.{statement}
@@ -47,13 +49,41 @@ loop-holds c = (omega arith, put-none _ _)
 record-rows-requires : tie.Need-record-rows-requires Inv-loop μ-loop
 record-rows-requires c κs = search needs
 
+kind-at-requires : tie.Need-kind-at-requires Inv-loop μ-loop
+kind-at-requires c κs = before-end (c .before)
+
+element-copy-out-row-count : tie.Need-element-copy-out-row-count Inv-loop μ-loop
+element-copy-out-row-count c = search needs
+
+row-count-requires : tie.Need-row-count-requires Inv-loop μ-loop
+row-count-requires c κs =
+    let in-loop = c .before .before .before in
+    rw (c .before .kind-at .ensures) (core-kind (start (in-loop .before) .pre .0) _ (before-end in-loop))
+
+-- ---- the rows that are rules
+abbrev rows-at : tie.After-row-count Inv-loop μ-loop → tie.After-record-rows Inv-loop μ-loop
+rows-at c = c .before .before .before
+
+counted : (c : tie.After-row-count Inv-loop μ-loop)
+    → let in-loop = rows-at c .before in
+    let a = start (in-loop .before) .args in
+    c .row-count .result ≡ length (rulesAt (a .records .now) (a .atoms) (in-loop .before .loop .r))
+counted c =
+    let in-loop = rows-at c .before in
+    let a = start (in-loop .before) .args in
+    record-counted-rows (a .atoms) (handed-moded (start (in-loop .before) .pre .1)) (before-end in-loop)
+    (rw (c .before .before .kind-at .ensures) at (c .row-count .ensures))
+
 put-rows-requires : tie.Need-put-rows-requires Inv-loop μ-loop
 put-rows-requires c κs =
-    let in-loop = c .before .before in
+    let rec = rows-at (c .before) in
+    let in-loop = rec .before in
     let a = start (in-loop .before) .args in
     let r = in-loop .before .loop .r in
-    let w = c .before .record-rows .ensures in (
-      omega (arith, w .counted, record-few (a .records .now) (a .atoms) r),
+    let w = rec .record-rows .ensures in
+    let n = counted (c .before) in
+    rw n (
+      record-few (a .records .now) (a .atoms) r,
       rowed-long w,
       rowed-room w (in-loop .before .loop .inv .1)
           (room-more (a .records .now) (a .atoms) (start (in-loop .before) .pre .2) r (before-end in-loop)),
@@ -68,8 +98,8 @@ loop-less c = search needs
 loop-again : tie.Need-loop-again Inv-loop μ-loop
 loop-again c =
     let put = c .before .before in
-    let rows = put .before .before in
-    let more = rowed-more (rows .record-rows .ensures) (rows .before .before .loop .inv .1) (put .put-rows .ensures) in
+    let rows = rows-at (put .before .before) in
+    let more = rowed-more (rows .record-rows .ensures) (rows .before .before .loop .inv .1) (rw (counted (put .before .before)) at (put .put-rows .ensures)) in
     (omega arith, rw each-more more)
 
 -- ---- the last rule
@@ -87,7 +117,7 @@ put-rows-requires-2 c κs =
     let done = c .before .before .before in
     let s = start (done .before) in
     let w = c .assert-row .ensures in (
-      omega (arith, w .counted),
+      omega arith,
       rowed-long w,
       rowed-room w (all done) (room-last (s .args .records .now) (s .args .atoms) (s .pre .2) _),
     )
@@ -116,6 +146,9 @@ write-rules-spec =
     record-count-requires
     loop-holds
     record-rows-requires
+    kind-at-requires
+    element-copy-out-row-count
+    row-count-requires
     put-rows-requires
     add-r
     loop-less

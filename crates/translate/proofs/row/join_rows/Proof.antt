@@ -8,11 +8,11 @@ use Rattle.translate.proofs.row.join_rows.Tie as tie
 
 returns : tie.Need-returns
 unfolding joinRules modeOf
-returns c = rw (eq-eqb _ _ (c .if1 .taken)) (record { counted = refl; held = refl })
+returns c = rw (eq-eqb _ _ (c .if1 .taken)) (record { held = refl })
 
 returns-2 : tie.Need-returns-2
 unfolding joinRules modeOf
-returns-2 c = rw (ne-eqb _ _ (c .if1 .left)) (record { counted = refl; held = refl })
+returns-2 c = rw (ne-eqb _ _ (c .if1 .left)) (record { held = refl })
 
 pub join-rows-spec : {M : Type 1} → statement M
 join-rows-spec = tie.close (tie.spec returns returns-2)

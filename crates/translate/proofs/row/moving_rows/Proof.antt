@@ -15,7 +15,6 @@ returns : tie.Need-returns
 returns c =
     let a = c .before .before .args in
     record {
-      counted = refl;
       held = rw (c .before .edge-body .ensures, c .edge-head .ensures, edge-words (a .mode) (a .place) (a .x));
     }
 
