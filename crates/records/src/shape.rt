@@ -6,126 +6,72 @@ ghost use Rattle.records.specs.Code.{sortCode, useCode};
 // Kinds are numbered below this.
 const KINDS: u8 = 48;
 
-// What field a holds, by kind: 0 nothing, 1 an atom number, 2 a formula, 3 a path.
-const USE_A: [u8; 48] = [
-    0,
-    0,
-    1,
-    3,
-    3,
-    0,
-    0,
-    2,
-    3,
-    3,
-    3,
-    0,
-    0,
-    0,
-    0,
-    0,
-    0,
-    0,
-    0,
-    0,
-    0,
-    0,
-    0,
-    0,
-    0,
-    0,
-    0,
-    0,
-    0,
-    0,
-    0,
-    0,
-    2,
-    2,
-    2,
-    2,
-    0,
-    0,
-    2,
-    2,
-    2,
-    2,
-    2,
-    2,
-    2,
-    2,
-    2,
-    2,
-];
-
-// What field b holds.
-const USE_B: [u8; 48] = [
-    0,
-    0,
-    0,
-    2,
-    2,
-    0,
-    0,
-    0,
-    3,
-    3,
-    0,
-    0,
-    0,
-    0,
-    0,
-    0,
-    0,
-    0,
-    0,
-    0,
-    0,
-    0,
-    0,
-    0,
-    0,
-    0,
-    0,
-    0,
-    0,
-    0,
-    0,
-    0,
-    0,
-    2,
-    2,
-    2,
-    0,
-    0,
-    0,
-    0,
-    0,
-    0,
-    0,
-    0,
-    0,
-    0,
-    2,
-    2,
-];
-
+// What field a holds, by kind: 0 nothing, 1 an atom number, 2 a formula, 3 a path. A table of these would be laid on the stack at each call.
 pub fn use_a(kind: u8) -> u8
     ensures { λ u. ⌜ u ≡ useCode (useA (kindOf kind)) ⌝ }
 {
-    if KINDS <= kind {
+    if kind < 2 {
         return 0;
     }
-    USE_A[kind as usize]
+    if kind < 3 {
+        return 1;
+    }
+    if kind < 5 {
+        return 3;
+    }
+    if kind < 7 {
+        return 0;
+    }
+    if kind < 8 {
+        return 2;
+    }
+    if kind < 11 {
+        return 3;
+    }
+    if kind < 32 {
+        return 0;
+    }
+    if kind < 36 {
+        return 2;
+    }
+    if kind < 38 {
+        return 0;
+    }
+    if kind < 48 {
+        return 2;
+    }
+    0
 }
 
+// What field b holds.
 pub fn use_b(kind: u8) -> u8
     ensures { λ u. ⌜ u ≡ useCode (useB (kindOf kind)) ⌝ }
 {
-    if KINDS <= kind {
+    if kind < 3 {
         return 0;
     }
-    USE_B[kind as usize]
+    if kind < 5 {
+        return 2;
+    }
+    if kind < 8 {
+        return 0;
+    }
+    if kind < 10 {
+        return 3;
+    }
+    if kind < 33 {
+        return 0;
+    }
+    if kind < 36 {
+        return 2;
+    }
+    if kind < 46 {
+        return 0;
+    }
+    if kind < 48 {
+        return 2;
+    }
+    0
 }
 
 // The sort of a record, numbered as the fields that hold such a child are: 2 a formula, 3 a path. Kinds 5 to 10 are paths.
