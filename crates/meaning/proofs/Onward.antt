@@ -18,7 +18,7 @@ use Rattle.meaning.proofs.Modality.{modal-bound}
 
 -- ---- values
 -- A move has a value.
-move-bound : (w : Way) (k j : ℕ) → moveSquare w k j ≤ 2
+pub move-bound : (w : Way) (k j : ℕ) → moveSquare w k j ≤ 2
 unfolding moveSquare
 move-bound ahead k j = there-bound j (k + 1) 2
 move-bound back k j = there-bound (j + 1) k 2

@@ -27,12 +27,12 @@ pub record Closing (L : ℕ) (p : Square) (m : ℕ) (s : Square) : Type 0 where
 -- ---- the star
 module _ (L : ℕ) (p : Square) where
   -- It stands still.
-  star-still : (k : ℕ) → k < L → 2 ≤ starSquare L p k k
+  pub star-still : (k : ℕ) → k < L → 2 ≤ starSquare L p k k
   unfolding passes
   star-still k h = omega (arith, star-greatest L p 0 k k h, value-there k k 2 refl)
 
   -- One pass and then the star is at most the star.
-  star-pass : (k i j v : ℕ) → k < L → i < L → v ≤ p k i → v ≤ starSquare L p i j → v ≤ starSquare L p k j
+  pub star-pass : (k i j v : ℕ) → k < L → i < L → v ≤ p k i → v ≤ starSquare L p i j → v ≤ starSquare L p k j
   star-pass k i j v h l a b = omega (arith, star-unfold L p k j h, sequence-intro L p (starSquare L p) k i j v l a b)
 
   -- So are any number of passes and then the star.
@@ -44,7 +44,7 @@ module _ (L : ℕ) (p : Square) where
       star-pass k q j v h l x (passes-star n q i j v l z y b)
 
   -- So the star goes on through each instant.
-  star-through : (k i j v : ℕ) → k < L → 0 < v → v ≤ starSquare L p k i → v ≤ starSquare L p i j
+  pub star-through : (k i j v : ℕ) → k < L → 0 < v → v ≤ starSquare L p k i → v ≤ starSquare L p i j
       → v ≤ starSquare L p k j
   star-through k i j v h z a b =
       let (n, _, e) = star-attained L p k i in
@@ -113,7 +113,7 @@ module _ {L m : ℕ} {p s : Square} (l : m < L) (w : Closing L p m s) where
 -- ---- the start and the end
 module _ {L : ℕ} {p : Square} (b : (k j : ℕ) → k < L → j < L → p k j ≤ 2) where
   -- With no pass it is from p up to the star.
-  standing-cell : (k j : ℕ) → k < L → j < L → (p k j ≤ standing p k j) × (standing p k j ≤ starSquare L p k j)
+  pub standing-cell : (k j : ℕ) → k < L → j < L → (p k j ≤ standing p k j) × (standing p k j ≤ starSquare L p k j)
   unfolding standing
   standing-cell k j h l = go (eqb j k) refl
     where

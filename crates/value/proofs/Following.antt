@@ -3,13 +3,15 @@
 use Prim.Native.Nat.{ℕ, _+_, _<_, _≤_}
 use mathlib.Core.Path.{_≡_, refl, _∙_}
 use mathlib.Core.List.{List}
+use mathlib.Core.Logic.{⊎-elim}
 use native.Mathlib.Nat.{le-refl}
 use native.Mathlib.Omega.{arith}
 use borrow.Author.Count.{below-more}
 use lib.ListN.{length}
 use Rattle.meaning.specs.Value.{Square}
+use Rattle.meaning.proofs.Bounds.{le-or-lt}
 use Rattle.value.specs.Cells.{at, Holds, Rowed}
-use Rattle.value.specs.Closing.{by, Passed}
+use Rattle.value.specs.Closing.{by, Passed, PassedRows}
 
 pub record Following (f : Square) (old s : List ℕ) (k : ℕ) : Type 0 where
   pub size : length s ≡ 1024
@@ -34,11 +36,34 @@ pub following-done : {f : Square} {old s : List ℕ} {k l : ℕ} → Following f
 following-done w h b = record { size = w .size; cells = λ r j p q. w .passed r (omega arith) j (omega arith) }
 
 -- ---- a pass by way of mid
+pub passing-none : {mid from : ℕ} {s : List ℕ} → length s ≡ 1024 → PassedRows mid from from s s
+passing-none e = record {
+  size = e;
+  passed = λ k j a b l. absurd (omega arith);
+  before = λ k j h l. refl;
+  behind = λ k j h l. refl;
+}
+
 -- Row k is made of itself, which no turn before has changed, and of a copy f of row mid from before the first turn.
-pub passing-more : {mid k : ℕ} {f : ℕ → ℕ} {old s new : List ℕ} → mid < 32 → Following (by (at old) mid) old s k
-    → ((j : ℕ) → j < 32 → f j ≡ at old mid j) → Passed k (at s k mid) f s new
-    → Following (by (at old) mid) old new (k + 1)
+pub passing-more : {mid from k : ℕ} {f : ℕ → ℕ} {old s new : List ℕ} → mid < 32 → from ≤ k → PassedRows mid from k old s
+    → ((j : ℕ) → j < 32 → f j ≡ at old mid j) → Passed k (at s k mid) f s new → PassedRows mid from (k + 1) old new
 unfolding by
-passing-more {mid} {k} h w copy p =
-    let own = w .ahead k (le-refl k) in
-    following-more w p (λ j l. omega (arith, own j l, own mid h, copy j l))
+passing-more {mid} {from} {k} {old = old} {new = new} h g w copy p = record {
+  size = p .size;
+  passed = λ r j a b l.
+      below-more (λ (r : ℕ). from ≤ r → at new r j ≡ by (at old) mid r j) k
+      (λ r m a. p .others r j (λ z. omega arith) l ∙ w .passed r j a m l)
+      (λ _. let own = w .behind k in p .row j l ∙ omega (arith, own j (le-refl k) l, own mid (le-refl k) h, copy j l))
+      r b a;
+  before = λ r j b l. p .others r j (λ z. omega arith) l ∙ w .before r j b l;
+  behind = λ r j b l. p .others r j (λ z. omega arith) l ∙ w .behind r j (omega arith) l;
+}
+
+-- A pass of row k alone.
+pub passed-one : {mid k : ℕ} {old new : List ℕ} → PassedRows mid k (k + 1) old new → Rowed k (by (at old) mid k) old new
+passed-one {mid} {k} {old} {new} w = record {
+  size = w .size;
+  row = λ j l. w .passed k j (le-refl k) (omega arith) l;
+  others = λ q j n l.
+      ⊎-elim (λ (h : k ≤ q). w .behind q j (omega arith) l) (λ (h : q < k). w .before q j h l) (le-or-lt k q);
+}

@@ -6,10 +6,12 @@ pub mod Diagonal
 pub mod Following
 pub mod Leading
 pub mod Closure
+pub mod Running
 pub mod Meant
 pub mod Table
 pub mod Children
 pub mod Recursion
+pub mod Moved
 pub mod Tested
 pub mod Reached
 pub mod Tabled

@@ -6,13 +6,15 @@
 --   Steady s A L cells r old new   right rows stay right, and so do the rows of paths and all that stands behind row r
 --   Valued s A L cells r old new   besides, the rows of the formulas under r are right
 --   Squared s A L cells p bytes    the bytes are the square of path p
+--   Moves s n p                    path p is a move of the kind n, with tests before it or behind it
+--   PathSquare s L p bytes         over L instants the bytes are the square of path p, on some trace
 use Prim.Native.Nat.{ℕ, _+_, _*_, _<_, _≤_}
 use mathlib.Core.Path.{_≡_}
 use mathlib.Core.Bool.{false}
 use mathlib.Core.List.{List}
 use lib.ListN.{length, getD}
 use Rattle.meaning.specs.Run.{cellOf}
-use Rattle.meaning.specs.Record.{count, kindAt, fieldA, fieldB, Sort, formula, path, sortOf, child, useA, useB}
+use Rattle.meaning.specs.Record.{count, kindAt, kindByte, fieldA, fieldB, Sort, formula, path, sortOf, child, useA, useB}
 use Rattle.meaning.specs.Tree.{formAt, pathAt}
 use Rattle.meaning.specs.Value.{valueOf, squareOf}
 use Rattle.meaning.specs.WellFormed.{WellFormed}
@@ -51,3 +53,16 @@ module _ (s : List ℕ) (A L : ℕ) (cells : List ℕ) where
 
   abbrev pub Squared : ℕ → List ℕ → Type 0
   Squared p bytes = Holds L bytes (squareOf L (cellOf A cells) (pathAt s p))
+
+pub data Moves (s : List ℕ) (n : ℕ) : ℕ → Type 0 where
+  itself : {p : ℕ} → kindByte s p ≡ n → Moves s n p
+  tested : {p : ℕ} → kindByte s p ≡ 9 → kindByte s (fieldA s p) ≡ 7 → Moves s n (fieldB s p) → Moves s n p
+  testing : {p : ℕ} → kindByte s p ≡ 9 → kindByte s (fieldB s p) ≡ 7 → Moves s n (fieldA s p) → Moves s n p
+
+pub record PathSquare (s : List ℕ) (L p : ℕ) (bytes : List ℕ) : Type 0 where
+  pub atoms : ℕ
+  pub cells : List ℕ
+  pub table : List ℕ
+  pub asked : Asked s atoms L cells p table
+  pub sort : sortOf (kindAt s p) ≡ path
+  pub square : Squared s atoms L cells p bytes

@@ -1,10 +1,13 @@
 // Valuing a record: a formula's row calls for its path's square, and a test in the path for its formula's row. The record number falls.
 ghost use mathlib.Core.Path.{_≡_};
-ghost use mathlib.Core.Bool.{_&&_};
-ghost use Prim.Native.Nat.{_<_};
+ghost use mathlib.Core.Bool.{_&&_, false};
+ghost use Prim.Native.Nat.{ℕ, _<_, _≤_};
 ghost use lib.Dec.{eqb};
 ghost use Rattle.meaning.specs.Record.{count, formula, path, sortOf, kindAt, kindByte};
-ghost use Rattle.value.specs.Valuing.{Asked, Valued, Squared};
+ghost use Rattle.meaning.specs.Value.{starSquare};
+ghost use Rattle.meaning.specs.WellFormed.{WellFormed};
+ghost use Rattle.value.specs.Cells.{at, Holds};
+ghost use Rattle.value.specs.Valuing.{Asked, Valued, Squared, Moves, PathSquare};
 use crate::row;
 use crate::square;
 use crate::star;
@@ -80,11 +83,48 @@ fn path_square(
     }
     let mut s = path_square(records, atoms, l, cells, a, table);
     if kind == 10 {
-        star::close(&mut s, l);
+        close(records, a, &mut s, l);
         return s;
     }
     let b = layout::field_b(records, p);
     let q = path_square(records, atoms, l, cells, b, table);
     square::join(kind, &mut s, &q, l);
     s
+}
+
+// The square of path p becomes its star's. A path that is one move with tests about it leads to one instant from each.
+fn close(records: &[u8], p: usize, s: &mut [u8; 1024], l: usize)
+    requires { ⌜ PathSquare (now records) l p (now s) ⌝ }
+    ensures { λ _. ⌜ Holds l (now (s .exit)) (starSquare l (at (now (s .entry)))) ⌝ }
+{
+    let way = one_way(records, p);
+    if way == 5 {
+        star::run_on(s, l);
+    } else if way == 6 {
+        star::run_back(s, l);
+    } else {
+        star::close(s, l);
+    }
+}
+
+// The kind of the one move of path p, if tests before it or behind it are all else that p has: 5 or 6.
+fn one_way(records: &[u8], p: usize) -> u8
+    requires { ⌜ ((A : ℕ) × WellFormed false (now records) A) × (p < count (now records)) ⌝ }
+    ensures { λ n. ⌜ (5 ≤ n → Moves (now (records .entry)) n p) ⌝ }
+{
+    let mut q = p;
+    let mut kind = layout::kind_at(records, q);
+    while kind == 9 {
+        let a = layout::field_a(records, q);
+        let b = layout::field_b(records, q);
+        if layout::kind_at(records, a) == 7 {
+            q = b;
+        } else if layout::kind_at(records, b) == 7 {
+            q = a;
+        } else {
+            return 0;
+        }
+        kind = layout::kind_at(records, q);
+    }
+    kind
 }

@@ -2,9 +2,10 @@
 ghost use mathlib.Core.Path.{_≡_};
 ghost use Prim.Native.Nat.{ℕ, _+_, _<_, _≤_};
 ghost use lib.ListN.{length, getD};
+ghost use Rattle.meaning.specs.Record.{ahead, back};
 ghost use Rattle.meaning.specs.Value.{starSquare};
 ghost use Rattle.value.specs.Cells.{at, Holds};
-ghost use Rattle.value.specs.Closing.{by, standing, Passed};
+ghost use Rattle.value.specs.Closing.{standing, Passed, PassedRows, Moving};
 
 pub fn close(s: &mut [u8; 1024], l: usize)
     requires { ⌜ (l ≤ 32) × (length (now s) ≡ 1024) × ((k j : ℕ) → k < l → j < l → at (now s) k j ≤ 2) ⌝ }
@@ -13,8 +14,34 @@ pub fn close(s: &mut [u8; 1024], l: usize)
     stand(s, l);
     let mut mid: usize = 0;
     while mid < l {
-        pass(s, mid, l);
+        pass(s, mid, 0, l);
         mid += 1;
+    }
+}
+
+// The star of a path that leads to the next instant alone: each row needs the row behind it and no other, so the last comes first.
+pub fn run_on(s: &mut [u8; 1024], l: usize)
+    requires { ⌜ (0 < l) × (l ≤ 32) × (length (now s) ≡ 1024) × Moving ahead l (at (now s)) ⌝ }
+    ensures { λ _. ⌜ Holds l (now (s .exit)) (starSquare l (at (now (s .entry)))) ⌝ }
+{
+    stand(s, l);
+    let mut k = l - 1;
+    while 0 < k {
+        k -= 1;
+        pass(s, k + 1, k, k + 1);
+    }
+}
+
+// The same for a path that leads to the instant before alone.
+pub fn run_back(s: &mut [u8; 1024], l: usize)
+    requires { ⌜ (l ≤ 32) × (length (now s) ≡ 1024) × Moving back l (at (now s)) ⌝ }
+    ensures { λ _. ⌜ Holds l (now (s .exit)) (starSquare l (at (now (s .entry)))) ⌝ }
+{
+    stand(s, l);
+    let mut k: usize = 1;
+    while k < l {
+        pass(s, k - 1, k, k + 1);
+        k += 1;
     }
 }
 
@@ -30,14 +57,15 @@ fn stand(s: &mut [u8; 1024], l: usize)
     }
 }
 
-// Each value, or by way of mid.
-fn pass(s: &mut [u8; 1024], mid: usize, l: usize)
-    requires { ⌜ (mid < 32) × (l ≤ 32) × (length (now s) ≡ 1024) ⌝ }
-    ensures { λ _. ⌜ Holds l (now (s .exit)) (by (at (now (s .entry))) mid) ⌝ }
+// Each value of the rows from `from` up to `to`, or by way of mid. The copy of a row is made here, in the one place that calls pass_row,
+// so that the compiler sees that it is no part of the square.
+fn pass(s: &mut [u8; 1024], mid: usize, from: usize, to: usize)
+    requires { ⌜ (mid < 32) × (from ≤ to) × (to ≤ 32) × (length (now s) ≡ 1024) ⌝ }
+    ensures { λ _. ⌜ PassedRows mid from to (now (s .entry)) (now (s .exit)) ⌝ }
 {
     let row = row_of(s, mid);
-    let mut k: usize = 0;
-    while k < l {
+    let mut k = from;
+    while k < to {
         pass_row(s, k, mid, &row);
         k += 1;
     }

@@ -8,7 +8,7 @@ use Rattle.records.proofs.Numbers.{path-number, formula-number}
 use Rattle.value.proofs.Table.{row-end}
 use Rattle.value.proofs.Children.{Child, ask-first, ask-second, ask-along, row-room, atom-low}
 use Rattle.records.proofs.Held.{test-first, path-first, join-second, modal-first, modal-second}
-use Rattle.value.proofs.Recursion.{square-low, move-done, test-done, star-done, join-done}
+use Rattle.value.proofs.Recursion.{move-done, test-done, star-done, join-done}
 use Rattle.value.proofs.Recursion.{constant-done, atom-done, modal-done}
 use Rattle.value.proofs.Tested.{begins, tested-done}
 use borrow.Author.Needs.{needs}
@@ -33,7 +33,7 @@ use Rattle.value.proofs.square.cap.Reads as cap-reads
 use Rattle.value.proofs.square.join.Reads as join-reads
 use Rattle.value.proofs.square.move_square.Reads as move-square-reads
 use Rattle.value.proofs.square.test_square.Reads as test-square-reads
-use Rattle.value.proofs.star.close.Reads as close-reads
+use Rattle.value.proofs.formula.close.Reads as close-reads
 use Rattle.value.proofs.formula.+path_square+value_formula.{statement}
 use Rattle.value.proofs.formula.+path_square+value_formula.Tie.{close}
 
@@ -338,12 +338,15 @@ module _ (t : ℕ) where
   path-square-close-requires : of-path path-square-lts.Need-close-requires
   path-square-close-requires c κs =
       let else = c .before .before .before .before .before .before .before .before in
-      let s = p-start (else .before) in
-      let q = c .before .before .before .before .path-square2 .ensures .1 in (
-        s .pre .1 .0 .legal .short,
-        q .size,
-        square-low (s .pre .1 .0) (else .before .before .before .kind-at .ensures) (s .pre .1 .1) _ q,
-      )
+      let h = part-a else .1 in
+      record {
+        atoms = _;
+        cells = _;
+        table = _;
+        asked = h .0;
+        sort = h .1;
+        square = c .before .before .before .before .path-square2 .ensures .1;
+      }
 
   path-square-same-length-3 : of-path path-square-lts.Need-same-length-3
   path-square-same-length-3 c = search needs

@@ -38,7 +38,7 @@ loop-again c = (
   c .pass .ensures .size,
   λ p w.
       closing-same (omega arith) (closing-more (omega arith) (c .before .before .before .loop .inv .2 p w))
-      (c .pass .ensures .cells),
+      (λ k j h l. c .pass .ensures .passed k j (omega arith) h (omega arith)),
 )
 
 returns : tie.Need-returns Inv-loop μ-loop
