@@ -10,7 +10,7 @@ use Rattle.meaning.specs.Judge.{ruleCount}
 use Rattle.meaning.specs.Refusal.{Ground, firstOf, ground8-cells, ground13-length, ground13, grounds9, judgeGrounds, mostColumns}
 use Rattle.meaning.proofs.First.{Numbered, numbered-append, numbered-each, none-clear, clear-append, clear-each, clear-skip}
 use Rattle.meaning.proofs.First.{found-stop, stop, pass}
-use Rattle.trace.proofs.Fitting.{size-fits, cells-numbered}
+use Rattle.trace.proofs.Fitting.{size-fits, cells-numbered, cells-low}
 use Rattle.rules.specs.Filled.{Filled}
 
 module _ (ws : List ℕ) (W L : ℕ) (cells : List ℕ) where
@@ -33,10 +33,13 @@ module _ (ws : List ℕ) (W L : ℕ) (cells : List ℕ) where
   unfolding judgeGrounds ground13
   filled e =
       let (size-right, rest) = none-clear _ all-numbered e in
-      let forms = clear-append formGrounds (grounds9 cells) .0 rest .0 in
+      let (forms, cells-clear) = clear-append formGrounds (grounds9 cells) .0 rest in
+      let fits = size-fits mostColumns W L cells size-right in
       record {
         forms = λ i h. clear-each _ (ruleCount ws) (forms .1) i h .0;
-        size = size-fits mostColumns W L cells size-right .3;
+        size = fits .3;
+        some = fits .1;
+        low = cells-low cells cells-clear;
       }
 
   -- ---- the first that applies, test by test

@@ -1,29 +1,22 @@
 -- The words of a rule. Row k of the cells ends before row k + 1 begins, so a symbol below 2 + W has its cell in the trace.
 -- A rule's form is six tests in turn, its place and its five literals; if none holds, each literal's symbol is below 2 + W.
--- A rule fails at an instant that its place has, unless its implication is worth 2.
-use Prim.Native.Nat.{ℕ, zero, suc, _+_, _*_, _-_, _<_, _≤_}
-use mathlib.Core.Path.{_≡_, sym, ap, _∙_}
-use mathlib.Core.Bool.{Bool, true, false, not, _||_, or-assoc, or-false}
+-- At an instant of its place a rule fails where its body is worth more than its head.
+use Prim.Native.Nat.{ℕ, zero, suc, _+_, _*_, _-_, _<_, _≤_, min}
+use mathlib.Core.Path.{_≡_, refl, sym, ap, _∙_}
+use mathlib.Core.Bool.{Bool, true, false, not, _||_, or-assoc, or-false, true≢false}
 use mathlib.Core.List.{List, [], _∷_}
+use mathlib.Core.Logic.{_⊎_, inl, inr}
 use native.Mathlib.Nat.{add-zero, mul-suc, mul-le-mul-left}
 use native.Mathlib.Omega.{arith}
-use lib.ListN.{length, getD, List·getD-eq-default}
-use lib.Dec.{ltb, eqb}
-use Rattle.meaning.specs.Three.{imp}
-use Rattle.meaning.specs.Rule.{ruleAt, ruleWord, ruleSize, placed, symbolOf, symbolValue, bodyValue, headValue, holds}
-use Rattle.meaning.specs.Judge.{ruleCount, failsAt}
+use lib.ListN.{length, getD}
+use lib.Dec.{ltb}
+use borrow.Author.Tests.{ltb-true, ltb-false}
+use Rattle.meaning.specs.Run.{cellOf}
+use Rattle.meaning.specs.Rule.{Rule, ruleAt, ruleWord, ruleSize, symbolOf, symbolValue, literal, bodyValue, headValue, holds}
 use Rattle.meaning.specs.Refusal.{badLiteral, badRule}
 use Rattle.meaning.proofs.Fails.{tests}
-use Rattle.rules.specs.Filled.{Filled}
-
--- ---- places
-pub no-place : (L place k : ℕ) → 3 < place → placed L place k ≡ false
-unfolding placed
-no-place L place k h = List·getD-eq-default (true ∷ eqb k 0 ∷ ltb 0 k ∷ eqb (k + 1) L ∷ []) false h
-
-place-word : (ws : List ℕ) (i : ℕ) → ruleAt ws i .place ≡ getD ws (ruleSize * i) 0
-unfolding ruleAt
-place-word ws i = rw add-zero
+use Rattle.meaning.proofs.Holding.{rule-holds}
+use Rattle.rules.specs.Filled.{Lookable}
 
 -- ---- symbols
 pub column : (cell : ℕ → ℕ → ℕ) (symbol k : ℕ) → 2 ≤ symbol → symbolValue cell symbol k ≡ cell k (symbol - 2)
@@ -61,26 +54,46 @@ unfolding badRule ruleAt some
 test-by-test W ws i = simp (add-zero, or-assoc, or-false)
 
 -- What looking up a literal asks, of each literal of a rule.
-pub may-look : {ws : List ℕ} {W L : ℕ} {cells : List ℕ} {i k : ℕ} → Filled ws W L cells × (i < ruleCount ws) × (k < L)
-    → let Look : ℕ → Type 0 = λ j. (symbolOf (ruleWord ws i j) < 2 + W) × (k < L) × (length cells ≡ W * L) in
-    Look 1 × Look 2 × Look 3 × Look 4 × Look 5
-unfolding badRule badLiteral ruleAt
-may-look (f, h, l) =
-    let e = simp tests at (f .forms _ h) in
+pub may-look : (ρ : Rule) {W L : ℕ} {cells : List ℕ} {k : ℕ} → Lookable ρ W L cells k
+    → let Look : ℕ → Type 0 = λ w. (symbolOf w < 2 + W) × (k < L) × (length cells ≡ W * L) in
+    Look (ρ .body1) × Look (ρ .body2) × Look (ρ .head1) × Look (ρ .head2) × Look (ρ .head3)
+unfolding badRule badLiteral
+may-look ρ f =
+    let e = simp tests at (f .form) in
+    let l = f .instant in
     let s = f .size in
     ((e .0 .0 .0 .0 .1 .0, l, s), (e .0 .0 .0 .1 .0, l, s), (e .0 .0 .1 .0, l, s), (e .0 .1 .0, l, s), (e .1 .0, l, s))
 
 -- ---- failing, by the values as the code made them
-module _ (ws : List ℕ) (L : ℕ) (cell : ℕ → ℕ → ℕ) (i k : ℕ) {p : Bool} (test : p ≡ placed L (getD ws (ruleSize * i) 0) k) where
-  as-placed : placed L (ruleAt ws i .place) k ≡ p
-  as-placed = rw place-word (sym test)
+module _ (ρ : Rule) {W L : ℕ} {cells : List ℕ} {k : ℕ} (f : Lookable ρ W L cells k) where
+  abbrev value : ℕ → ℕ
+  value w = literal (cellOf W cells) w k
 
-  pub not-placed : p ≡ false → false ≡ failsAt L cell (ruleAt ws i) k
-  unfolding failsAt
-  not-placed e = rw (as-placed ∙ e)
+  at-most : bodyValue (cellOf W cells) ρ k ≤ headValue (cellOf W cells) ρ k → false ≡ not (holds (cellOf W cells) ρ k)
+  at-most h = rw (rule-holds (cellOf W cells) (λ k i. f .low (W * k + i)) ρ k .1 h)
 
-  pub by-values : {u v w : ℕ} → p ≡ true
-      → u ≡ bodyValue cell (ruleAt ws i) k → v ≡ headValue cell (ruleAt ws i) k → w ≡ imp u v
-      → not (eqb w 2) ≡ failsAt L cell (ruleAt ws i) k
-  unfolding failsAt holds
-  by-values e body head value = rw (as-placed ∙ e, value, body, head)
+  -- A first body literal of 0 decides, or a head literal that the body is at most.
+  pub by-body : {u : ℕ} → u ≡ value (ρ .body1) → u ≡ 0 → false ≡ not (holds (cellOf W cells) ρ k)
+  unfolding bodyValue
+  by-body e z = at-most (omega arith)
+
+  module _ {u v b : ℕ} (eu : u ≡ value (ρ .body1)) (ev : v ≡ value (ρ .body2)) (eb : b ≡ min u v) where
+    pub by-head : {h : ℕ} → (h ≡ value (ρ .head1)) ⊎ (h ≡ value (ρ .head2)) → b ≤ h → false ≡ not (holds (cellOf W cells) ρ k)
+    unfolding bodyValue headValue
+    by-head (inl e) l = at-most (omega arith)
+    by-head (inr e) l = at-most (omega arith)
+
+    -- Else the last head literal does.
+    pub by-last : {x y z : ℕ} → x ≡ value (ρ .head1) → y ≡ value (ρ .head2) → z ≡ value (ρ .head3) → x < b → y < b
+        → ltb z b ≡ not (holds (cellOf W cells) ρ k)
+    unfolding bodyValue headValue
+    by-last {x} {y} {z} ex ey ez lx ly = go (ltb z b) refl (holds (cellOf W cells) ρ k) refl
+      where
+        go : (s : Bool) → ltb z b ≡ s → (t : Bool) → holds (cellOf W cells) ρ k ≡ t → s ≡ not t
+        go true e true d =
+            absurd (omega (arith, ltb-true z b e, rule-holds (cellOf W cells) (λ k i. f .low (W * k + i)) ρ k .0 d))
+        go true e false d = refl
+        go false e true d = refl
+        go false e false d =
+            let n = at-most (omega (arith, ltb-false z b e)) in
+            absurd (true≢false (sym (rw d at n)))

@@ -3,13 +3,14 @@ mod form;
 mod literal;
 
 ghost use mathlib.Core.Path.{_≡_};
+ghost use mathlib.Core.Bool.{not};
 ghost use Prim.Native.Nat.{_<_};
 ghost use Rattle.meaning.specs.Run.{cellOf};
-ghost use Rattle.meaning.specs.Rule.{ruleAt, bodyValue, headValue};
-ghost use Rattle.meaning.specs.Judge.{ruleCount, failsAt, verdict};
+ghost use Rattle.meaning.specs.Rule.{ruleAt, holds};
+ghost use Rattle.meaning.specs.Judge.{ruleCount, verdict};
 ghost use Rattle.meaning.specs.Refusal.{firstOf, judgeGrounds};
 ghost use Rattle.meaning.specs.Service.{told, judgeAnswer};
-ghost use Rattle.rules.specs.Filled.{Filled, Gives};
+ghost use Rattle.rules.specs.Filled.{Filled, Lookable, Gives, six};
 
 // A refusal, or whether all rules hold, and else the first rule that fails and its first failing instant.
 #[repr(C)]
@@ -18,6 +19,16 @@ pub struct Judged {
     pub holds: u8,
     pub rule: u64,
     pub instant: u64,
+}
+
+// The words of a rule.
+struct Rule {
+    place: u16,
+    body1: u16,
+    body2: u16,
+    head1: u16,
+    head2: u16,
+    head3: u16,
 }
 
 // The first refusal that applies; or yes; or the first rule that fails, and its first failing instant.
@@ -62,9 +73,11 @@ fn first_failure(rules: &[u16], width: usize, l: usize, cells: &[u8]) -> Judged
     let mut i: usize = 0;
     let mut k: usize = 0;
     'rules: while i < n {
-        k = 0;
-        while k < l {
-            if fails_at(rules, width, l, cells, i, k) {
+        let rule = rule_at(rules, i);
+        let end = literal::end_of(l, rule.place);
+        k = literal::start_of(l, rule.place);
+        while k < end {
+            if fails_at(rule, width, l, cells, k) {
                 break 'rules;
             }
             k += 1;
@@ -88,38 +101,37 @@ fn first_failure(rules: &[u16], width: usize, l: usize, cells: &[u8]) -> Judged
     }
 }
 
-// Whether rule i has the instant k and fails there.
-fn fails_at(rules: &[u16], width: usize, l: usize, cells: &[u8], i: usize, k: usize) -> bool
-    requires { ⌜ Filled (now rules) width l (now cells) × (i < ruleCount (now rules)) × (k < l) ⌝ }
-    ensures { λ b. ⌜ b ≡ failsAt l (cellOf width (now (cells .entry))) (ruleAt (now (rules .entry)) i) k ⌝ }
+// The six words of rule i.
+fn rule_at(rules: &[u16], i: usize) -> Rule
+    requires { ⌜ i < ruleCount (now rules) ⌝ }
+    ensures { λ ρ. ⌜ six (ρ .place) (ρ .body1) (ρ .body2) (ρ .head1) (ρ .head2) (ρ .head3) ≡ ruleAt (now (rules .entry)) i ⌝ }
 {
-    if !literal::is_placed(l, rules[form::RULE_SIZE * i], k) {
+    let at = form::RULE_SIZE * i;
+    Rule {
+        place: rules[at],
+        body1: rules[at + 1],
+        body2: rules[at + 2],
+        head1: rules[at + 3],
+        head2: rules[at + 4],
+        head3: rules[at + 5],
+    }
+}
+
+// Whether a rule fails at an instant k of its place: its body is worth more than its head. A word is looked up where it may decide.
+fn fails_at(rule: Rule, width: usize, l: usize, cells: &[u8], k: usize) -> bool
+    requires { ⌜ Lookable (six (rule .place) (rule .body1) (rule .body2) (rule .head1) (rule .head2) (rule .head3)) width l (now cells) k ⌝ }
+    ensures { λ b. ⌜ b ≡ not (holds (cellOf width (now (cells .entry))) (six (rule .place) (rule .body1) (rule .body2) (rule .head1) (rule .head2) (rule .head3)) k) ⌝ }
+{
+    let u = literal::literal_at(rule.body1, width, l, cells, k);
+    if u == 0 {
         return false;
     }
-    let body = body_at(rules, width, l, cells, i, k);
-    let head = head_at(rules, width, l, cells, i, k);
-    three::imp(body, head) != 2
-}
-
-// The smaller of the two body literals.
-fn body_at(rules: &[u16], width: usize, l: usize, cells: &[u8], i: usize, k: usize) -> u8
-    requires { ⌜ Filled (now rules) width l (now cells) × (i < ruleCount (now rules)) × (k < l) ⌝ }
-    ensures { λ u. ⌜ u ≡ bodyValue (cellOf width (now (cells .entry))) (ruleAt (now (rules .entry)) i) k ⌝ }
-{
-    let at = form::RULE_SIZE * i;
-    let u = literal::literal_at(rules[at + 1], width, l, cells, k);
-    let v = literal::literal_at(rules[at + 2], width, l, cells, k);
-    three::least(u, v)
-}
-
-// The greatest of the three head literals.
-fn head_at(rules: &[u16], width: usize, l: usize, cells: &[u8], i: usize, k: usize) -> u8
-    requires { ⌜ Filled (now rules) width l (now cells) × (i < ruleCount (now rules)) × (k < l) ⌝ }
-    ensures { λ u. ⌜ u ≡ headValue (cellOf width (now (cells .entry))) (ruleAt (now (rules .entry)) i) k ⌝ }
-{
-    let at = form::RULE_SIZE * i;
-    let u = literal::literal_at(rules[at + 3], width, l, cells, k);
-    let v = literal::literal_at(rules[at + 4], width, l, cells, k);
-    let w = literal::literal_at(rules[at + 5], width, l, cells, k);
-    three::greatest(three::greatest(u, v), w)
+    let body = three::least(u, literal::literal_at(rule.body2, width, l, cells, k));
+    if body <= literal::literal_at(rule.head1, width, l, cells, k) {
+        return false;
+    }
+    if body <= literal::literal_at(rule.head2, width, l, cells, k) {
+        return false;
+    }
+    literal::literal_at(rule.head3, width, l, cells, k) < body
 }

@@ -3,7 +3,8 @@ ghost use mathlib.Core.Path.{_≡_};
 ghost use Prim.Native.Nat.{pred, _+_, _*_, _<_};
 ghost use lib.ListN.{length};
 ghost use Rattle.meaning.specs.Run.{cellOf};
-ghost use Rattle.meaning.specs.Rule.{symbolOf, isPrevious, isNegated, placed, symbolValue, plain, literal};
+ghost use Rattle.meaning.specs.Rule.{symbolOf, isPrevious, isNegated, symbolValue, plain, literal};
+ghost use Rattle.rules.specs.Filled.{startOf, endOf};
 
 // The words' parts: a symbol below this, and marks for the previous instant and for negation.
 const PREVIOUS: u16 = 16384;
@@ -28,18 +29,27 @@ fn is_negated(word: u16) -> bool
     word / NEGATED % 2 == 1
 }
 
-// Whether a place has the instant k of l: 0 every instant, 1 the first, 2 all but the first, 3 the last.
-pub fn is_placed(l: usize, place: u16, k: usize) -> bool
-    requires { ⌜ k < l ⌝ }
-    ensures { λ b. ⌜ b ≡ placed l place k ⌝ }
+// A place's instants are those from its start up to its end: 0 every instant, 1 the first, 2 all but the first, 3 the last.
+pub fn start_of(l: usize, place: u16) -> usize
+    requires { ⌜ 0 < l ⌝ }
+    ensures { λ k. ⌜ k ≡ startOf l place ⌝ }
 {
-    match place {
-        0 => true,
-        1 => k == 0,
-        2 => 0 < k,
-        3 => k + 1 == l,
-        _ => false,
+    if place == 2 {
+        return 1;
     }
+    if place == 3 {
+        return l - 1;
+    }
+    0
+}
+
+pub fn end_of(l: usize, place: u16) -> usize
+    ensures { λ k. ⌜ k ≡ endOf l place ⌝ }
+{
+    if place == 1 {
+        return 1;
+    }
+    l
 }
 
 // The value of a literal at instant k.

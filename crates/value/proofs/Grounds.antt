@@ -4,29 +4,17 @@ use Prim.Native.Nat.{ℕ, _*_, _<_, _≤_}
 use mathlib.Core.Path.{_≡_, refl, sym, _∙_}
 use mathlib.Core.Bool.{true, false}
 use mathlib.Core.List.{List, [], _∷_, _++_}
-use mathlib.Core.Logic.{⊎-elim}
 use native.Mathlib.Omega.{arith}
-use lib.ListN.{length, getD, List·getD-eq-default}
+use lib.ListN.{length}
 use borrow.Author.Tests.{lt-ltb, le-ltb, ltb-false}
 use Rattle.meaning.specs.Record.{count}
 use Rattle.meaning.specs.Refusal.{Ground, firstOf, ground1, ground8, ground8-cells, grounds9, ground10}
 use Rattle.meaning.specs.Refusal.{treeGrounds, valueGrounds, mostAtoms}
-use Rattle.meaning.proofs.Bounds.{le-or-lt}
-use Rattle.meaning.proofs.Fails.{tests}
-use Rattle.meaning.proofs.First.{Clear, Numbered, none-clear, clear-append, clear-each, clear-skip, found-stop}
+use Rattle.meaning.proofs.First.{Numbered, none-clear, clear-append, clear-skip, found-stop}
 use Rattle.meaning.proofs.First.{numbered-append, stop, pass}
 use Rattle.meaning.proofs.Accepted.{clear-well-formed, tree-numbered}
-use Rattle.trace.proofs.Fitting.{size-fits, cells-numbered}
+use Rattle.trace.proofs.Fitting.{size-fits, cells-numbered, cells-low}
 use Rattle.value.specs.Valuing.{Legal}
-
--- No cell is over 2, also where there is none.
-cells-low : (cells : List ℕ) → Clear (grounds9 cells) → (i : ℕ) → getD cells i 0 ≤ 2
-unfolding grounds9
-cells-low cells c i =
-    ⊎-elim
-    (λ (h : length cells ≤ i). rw (List·getD-eq-default cells 0 h) (omega arith))
-    (λ (h : i < length cells). let e = simp tests at (clear-each _ (length cells) c i h .0) in omega arith)
-    (le-or-lt (length cells) i)
 
 module _ (s : List ℕ) (A L : ℕ) (cells : List ℕ) (room : ℕ) where
   abbrev last : List Ground

@@ -1,50 +1,66 @@
--- `fails_at` meets its contract: a rule fails where its place has the instant and its implication is not worth 2.
-use borrow.Author.Tests.{not-true, not-false}
+-- `fails_at` meets its contract: each word of the rule may be looked up, and the first that decides does.
+use mathlib.Core.Logic.{inl, inr}
+use Rattle.rules.proofs.Words.{may-look, by-body, by-head, by-last}
 use borrow.Author.Needs.{needs}
-use Rattle.rules.proofs.Words.{not-placed, by-values}
 use Rattle.rules.proofs.fails_at.Statement.{statement}
 use Rattle.rules.proofs.fails_at.Tie as tie
 
-mul-is-placed : tie.Need-mul-is-placed
-mul-is-placed c = search needs
-
-mul-is-placed-2 : tie.Need-mul-is-placed-2
-mul-is-placed-2 c = search needs
-
-shared-slice-read-is-placed : tie.Need-shared-slice-read-is-placed
-shared-slice-read-is-placed c = search needs
-
-is-placed-requires : tie.Need-is-placed-requires
-is-placed-requires c κs = search needs
+literal-at-requires : tie.Need-literal-at-requires
+literal-at-requires c κs = may-look _ (c .before .pre) .0
 
 returns : tie.Need-returns
-returns c = not-placed _ _ _ _ _ (c .before .is-placed .ensures) (not-true _ (c .if1 .taken))
+returns c = by-body _ (c .before .before .before .pre) (c .before .literal-at .ensures) (c .if1 .taken)
 
-body-at-requires : tie.Need-body-at-requires
-body-at-requires c κs = search needs
+literal-at-requires-2 : tie.Need-literal-at-requires-2
+literal-at-requires-2 c κs = may-look _ (c .before .before .before .pre) .1
 
-head-at-requires : tie.Need-head-at-requires
-head-at-requires c κs = search needs
+least-requires : tie.Need-least-requires
+least-requires c κs = search needs
 
-imp-requires : tie.Need-imp-requires
-imp-requires c κs = search needs
+literal-at-requires-3 : tie.Need-literal-at-requires-3
+literal-at-requires-3 c κs = may-look _ (c .before .before .before .before .before .pre) .2
 
 returns-2 : tie.Need-returns-2
 returns-2 c =
-    let else = c .before .before .before in
-    by-values _ _ _ _ _ (else .before .is-placed .ensures) (not-false _ (else .if1 .left))
-    (c .before .before .body-at .ensures) (c .before .head-at .ensures) (c .imp .ensures)
+    let body = c .before .before in
+    let first = body .before .before .before in
+    by-head _ (first .before .before .pre) (first .literal-at .ensures) (body .before .literal-at2 .ensures) (body .least .ensures)
+    (inl (c .before .literal-at3 .ensures)) (c .if2 .taken)
+
+literal-at-requires-4 : tie.Need-literal-at-requires-4
+literal-at-requires-4 c κs = may-look _ (c .before .before .before .before .before .before .before .pre) .3
+
+returns-3 : tie.Need-returns-3
+returns-3 c =
+    let body = c .before .before .before .before in
+    let first = body .before .before .before in
+    by-head _ (first .before .before .pre) (first .literal-at .ensures) (body .before .literal-at2 .ensures) (body .least .ensures)
+    (inr (c .before .literal-at4 .ensures)) (c .if3 .taken)
+
+literal-at-requires-5 : tie.Need-literal-at-requires-5
+literal-at-requires-5 c κs = may-look _ (c .before .before .before .before .before .before .before .before .before .pre) .4
+
+returns-4 : tie.Need-returns-4
+returns-4 c =
+    let second = c .before .before in
+    let head = second .before .before in
+    let body = head .before in
+    let first = body .before .before .before in
+    by-last _ (first .before .before .pre) (first .literal-at .ensures) (body .before .literal-at2 .ensures) (body .least .ensures)
+    (head .literal-at3 .ensures) (second .literal-at4 .ensures) (c .literal-at5 .ensures) (second .before .if2 .left)
+    (c .before .if3 .left)
 
 pub fails-at-spec : {M : Type 1} → statement M
 fails-at-spec =
     tie.close
     (tie.spec
-    mul-is-placed
-    mul-is-placed-2
-    shared-slice-read-is-placed
-    is-placed-requires
+    literal-at-requires
     returns
-    body-at-requires
-    head-at-requires
-    imp-requires
-    returns-2)
+    literal-at-requires-2
+    least-requires
+    literal-at-requires-3
+    returns-2
+    literal-at-requires-4
+    returns-3
+    literal-at-requires-5
+    returns-4)
