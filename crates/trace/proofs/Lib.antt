@@ -1,2 +1,3 @@
 -- What the proofs of several crates cite.
 pub mod Fitting
+pub mod Highest

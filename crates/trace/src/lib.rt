@@ -1,6 +1,8 @@
 // A trace's sizes and cells: refusals 8 and 9 of the services that take one.
 ghost use mathlib.Core.Path.{_≡_};
 ghost use Prim.Native.Nat.{_≤_};
+ghost use lib.ListN.{length, getD};
+ghost use Rattle.meaning.specs.Three.{greatest};
 ghost use Rattle.meaning.specs.Refusal.{firstOf, ground8-cells, grounds9, mostColumns};
 
 // No trace has more instants.
@@ -23,16 +25,26 @@ pub fn wrong_size(most: u64, width: u64, instants: u64, cells: &[u8]) -> bool
     cells.len() as u64 != width * instants
 }
 
-// 9: a cell over 2.
+// 9: a cell over 2. The greatest is found with no exit from the loop, so that the compiler makes vector instructions of it.
 pub fn cells_refusal(cells: &[u8]) -> u8
     ensures { λ x. ⌜ x ≡ firstOf (grounds9 (now (cells .entry))) ⌝ }
 {
+    if 2 < greatest_cell(cells) {
+        return 9;
+    }
+    0
+}
+
+fn greatest_cell(cells: &[u8]) -> u8
+    ensures { λ m. ⌜ m ≡ greatest (length (now (cells .entry))) (λ i. getD (now (cells .entry)) i 0) ⌝ }
+{
+    let mut most: u8 = 0;
     let mut i: usize = 0;
     while i < cells.len() {
-        if 2 < cells[i] {
-            return 9;
+        if most < cells[i] {
+            most = cells[i];
         }
         i += 1;
     }
-    0
+    most
 }

@@ -1,0 +1,61 @@
+-- `greatest_cell` meets its contract: after i turns it is the greatest of the first i cells.
+use Prim.Native.Nat.{_-_, _≤_}
+use mathlib.Core.Path.{_≡_, refl}
+use mathlib.Core.Logic.{⊎-elim}
+use native.Mathlib.Omega.{arith}
+use borrow.Author.Needs.{needs}
+use lib.ListN.{length}
+use Rattle.meaning.specs.Three.{greatest}
+use Rattle.meaning.proofs.Bounds.{greatest-more}
+use Rattle.trace.proofs.Highest.{cell-of}
+use Rattle.trace.proofs.greatest_cell.Statement.{statement}
+use Rattle.trace.proofs.greatest_cell.Tie as tie
+
+abbrev Inv-loop : tie.InvT-loop
+Inv-loop cells most₀ i₀ most i = (i ≤ length cells) × (most ≡ greatest i (cell-of cells))
+
+abbrev μ-loop : tie.MeasureT-loop
+μ-loop cells most₀ i₀ most i = length cells - i
+
+loop-holds : tie.Need-loop-holds Inv-loop μ-loop
+unfolding greatest
+loop-holds c = (search needs, refl)
+
+shared-slice-read-if1 : tie.Need-shared-slice-read-if1 Inv-loop μ-loop
+shared-slice-read-if1 c = search needs
+
+shared-slice-read-most : tie.Need-shared-slice-read-most Inv-loop μ-loop
+shared-slice-read-most c = search needs
+
+add-i : tie.Need-add-i Inv-loop μ-loop
+add-i c = search needs
+
+loop-less : tie.Need-loop-less Inv-loop μ-loop
+loop-less c = search needs
+
+loop-again : tie.Need-loop-again Inv-loop μ-loop
+loop-again c = (
+  omega arith,
+  rw greatest-more
+      (⊎-elim (λ w. omega (arith, w .0 .taken, w .2)) (λ w. omega (arith, w .0 .left, w .1)) (c .if1 .came)),
+)
+
+returns : tie.Need-returns Inv-loop μ-loop
+returns c =
+    let e = c .before .loop .inv in
+    let d : c .before .loop .i ≡ length (c .before .before .args .cells .now) = omega arith in
+    rw (← d) (e .1)
+
+pub greatest-cell-spec : {M : Type 1} → statement M
+greatest-cell-spec =
+    tie.close
+    (tie.spec
+    Inv-loop
+    μ-loop
+    loop-holds
+    shared-slice-read-if1
+    shared-slice-read-most
+    add-i
+    loop-less
+    loop-again
+    returns)
