@@ -2,7 +2,7 @@
 -- square has 2 from each instant to itself, is at least p, goes on through each of these instants, and is at most the
 -- star. A pass by way of m keeps this up, since what goes by m twice can go there once; and what goes on through every
 -- instant is at least any number of passes of p, so in the end it is the star.
-use Prim.Native.Nat.{ℕ, zero, suc, _+_, _≤_, _<_}
+use Prim.Native.Nat.{ℕ, zero, suc, _+_, _≤_, _<_, zero-le}
 use mathlib.Core.Path.{_≡_, refl, sym, subst}
 use mathlib.Core.Bool.{Bool, true, false, cond}
 use mathlib.Core.Logic.{_⊎_, inl, inr}
@@ -158,3 +158,21 @@ closing-same {L} {m} {p} {s} {t} l w e = record {
       rw (e k i h (omega arith), e i j (omega arith) g, e k j h g) (w .through k i j v h n g);
   within = λ k j h n. rw (e k j h n) (w .within k j h n);
 }
+
+-- ---- a star of a star
+-- A star stands still and goes on through every instant, so it is closed already.
+pub star-again : (L : ℕ) (p : Square) → ((k j : ℕ) → k < L → j < L → starSquare L p k j ≤ 2) → (k j : ℕ) → k < L → j < L
+    → starSquare L p k j ≡ starSquare L (starSquare L p) k j
+star-again L p b = closing-done {m = L} closed (le-refl L)
+  where
+    on : (k i j v : ℕ) → k < L → i < L → j < L → v ≤ starSquare L p k i → v ≤ starSquare L p i j → v ≤ starSquare L p k j
+    on k i j zero h l m x y = zero-le
+    on k i j (suc v) h l m x y = star-through L p k i j (suc v) h (omega arith) x y
+
+    closed : Closing L (starSquare L p) L (starSquare L p)
+    closed = record {
+      still = star-still L p;
+      above = λ k j h l. le-refl _;
+      through = on;
+      within = λ k j h l. star-above L (starSquare L p) k j h l (b k j h l);
+    }

@@ -18,6 +18,7 @@ use Rattle.value.specs.Valuing.{Under, Right, Asked, Valued, Squared}
 use Rattle.meaning.proofs.Nodes.{differs}
 use Rattle.records.proofs.Numbers.{path-number, formula-number}
 use Rattle.value.proofs.Meant.{val, sq, value-constant, value-atom, value-modal}
+use Rattle.value.proofs.Closure.{star-again}
 use Rattle.value.proofs.Meant.{square-move, square-test, square-join, square-star}
 use Rattle.value.proofs.Same.{Agree, holds-same, joined-same, star-same, modal-same}
 use Rattle.value.proofs.Table.{under-all, steady-same, steady-lower, steady-then, put-right, put-steady}
@@ -130,6 +131,19 @@ module _ {s : List ℕ} {A L : ℕ} {cells : List ℕ} {r n : ℕ} {t : List ℕ
     square-low a q k j h l =
         let low = square-bound L (cellOf A cells) (λ k i _. w .legal .low (A * k + i)) (pathAt s a) k j h in
         omega (arith, q .cells k j h l)
+
+    -- A star's square is its own star's.
+    pub star-closed : {bytes : List ℕ} → n ≡ 10 → Squared s A L cells r bytes → Holds L bytes (starSquare L (at bytes))
+    star-closed {bytes} e q =
+        let ten : kindByte s r ≡ 10 = sym num ∙ e in
+        let body = sq w (fieldA s r) in
+        let is : Agree L (at bytes) (starSquare L body) = λ k j h l. q .cells k j h l ∙ square-star w k j ten in
+        let low : (k j : ℕ) → k < L → j < L → starSquare L body k j ≤ 2 =
+        λ k j h l. omega (arith, is k j h l, square-low r q k j h l) in
+        record {
+          size = q .size;
+          cells = λ k j h l. is k j h l ∙ star-again L body low k j h l ∙ sym (star-same L (at bytes) (starSquare L body) is k j h l);
+        }
 
     pub star-done : {a : ℕ} {bytes new t₁ : List ℕ} → n ≡ 10 → a ≡ fieldA s r → Valued s A L cells a t t₁
         → Squared s A L cells a bytes → Holds L new (starSquare L (at bytes))

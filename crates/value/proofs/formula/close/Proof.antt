@@ -1,24 +1,32 @@
--- `close` meets its contract: where the path is one move with tests about it, its square is at most the move's.
+-- `close` meets its contract: a star is closed; and where the path is one move with tests about it, its square is at most the move's.
 use native.Mathlib.Omega.{arith}
 use Rattle.records.specs.Code.{wayOf}
 use Rattle.value.proofs.Moved.{square-moving}
-use Rattle.value.proofs.Recursion.{square-low}
+use Rattle.value.proofs.Recursion.{square-low, star-closed}
 use borrow.Author.Needs.{needs}
 use mathlib.Core.Path.{refl}
 use Rattle.value.proofs.formula.close.Statement.{statement}
 use Rattle.value.proofs.formula.close.Tie as tie
 
+kind-at-requires : tie.Need-kind-at-requires
+kind-at-requires c κs = c .before .pre .asked .index
+
+returns : tie.Need-returns
+returns c =
+    let w = c .before .before .before .pre in
+    star-closed (w .asked) (c .before .kind-at .ensures) (w .sort) (c .if1 .taken) (w .square)
+
 one-way-requires : tie.Need-one-way-requires
 one-way-requires c κs =
-    let w = c .before .pre .asked in
+    let w = c .before .before .before .pre .asked in
     ((_, w .legal .formed), w .index)
 
 run-on-requires : tie.Need-run-on-requires
 unfolding wayOf
 run-on-requires c κs =
     let one = c .before .before in
-    let way = c .before .if1 .taken in
-    let w = one .before .before .pre in
+    let way = c .before .if2 .taken in
+    let w = one .before .before .before .before .pre in
     let m = square-moving w (omega arith) (omega arith) (one .one-way .ensures (omega arith)) in
     (w .asked .legal .some, w .asked .legal .short, w .square .size, rw way at m)
 
@@ -26,33 +34,35 @@ run-back-requires : tie.Need-run-back-requires
 unfolding wayOf
 run-back-requires c κs =
     let one = c .before .before .before in
-    let way = c .before .if2 .taken in
-    let w = one .before .before .pre in
+    let way = c .before .if3 .taken in
+    let w = one .before .before .before .before .pre in
     let m = square-moving w (omega arith) (omega arith) (one .one-way .ensures (omega arith)) in
     (w .asked .legal .short, w .square .size, rw way at m)
 
 close-requires : tie.Need-close-requires
 close-requires c κs =
-    let w = c .before .before .before .before .before .pre in
+    let w = c .before .before .before .before .before .before .before .pre in
     (w .asked .legal .short, w .square .size, square-low (w .asked) refl (w .sort) _ (w .square))
 
-returns : tie.Need-returns
-returns c = c .run-on .ensures
-
 returns-2 : tie.Need-returns-2
-returns-2 c = c .run-back .ensures
+returns-2 c = c .run-on .ensures
 
 returns-3 : tie.Need-returns-3
-returns-3 c = c .close .ensures
+returns-3 c = c .run-back .ensures
+
+returns-4 : tie.Need-returns-4
+returns-4 c = c .close .ensures
 
 pub close-spec : {M : Type 1} → statement M
 close-spec =
     tie.close
     (tie.spec
+    kind-at-requires
+    returns
     one-way-requires
     run-on-requires
     run-back-requires
     close-requires
-    returns
     returns-2
-    returns-3)
+    returns-3
+    returns-4)
