@@ -4,6 +4,7 @@ pub mod Stored
 pub mod Putting
 pub mod Diagonal
 pub mod Following
+pub mod Shifting
 pub mod Leading
 pub mod Closure
 pub mod Running

@@ -100,6 +100,11 @@ module _ {s : List ℕ} {A L : ℕ} {cells : List ℕ} {r n : ℕ} {t : List ℕ
           holds-same h (λ k j _ _. rw num (sym (square-move w k j five (omega arith)))),
         )
 
+    pub move-is : {bytes : List ℕ} → Squared s A L cells r bytes → n < 7 → Agree L (at bytes) (moveSquare (wayOf n))
+    move-is q l k j h m =
+        let five = path-number (w .legal .formed) r (w .index) p .0 in
+        q .cells k j h m ∙ rw num (square-move w k j five (omega arith))
+
     -- A test has its formula's rows, and a square from its formula's row.
     pub test-valued : {a : ℕ} {t₁ : List ℕ} → kindByte s r ≡ 7 → a ≡ fieldA s r → Valued s A L cells a t t₁
         → Valued s A L cells r t t₁

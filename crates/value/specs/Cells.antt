@@ -7,6 +7,8 @@
 --   Rowed k f old new        `new` is the square `old` with the values f j in row k
 --   joinOf                   a choice or a sequence, by the number of its kind
 --   capped f p               p from k to j, but no more than f k
+--   Padded L f row           a row of 34 values: a 0, the values f j below L, and a 0
+--   shiftOf                  where the padded row starts that a move of the kind makes of a row
 --   nextCell                 how far behind k * 33 the value of a move of the kind stands
 use Prim.Native.Nat.{ℕ, _+_, _*_, _<_, _≤_, min, max}
 use mathlib.Core.Path.{_≡_}
@@ -49,3 +51,11 @@ capped f p k j = min (p k j) (f k)
 
 unfoldable pub nextCell : ℕ → ℕ
 nextCell kind = cond (eqb kind 5) 1 32
+
+pub record Padded (L : ℕ) (f : ℕ → ℕ) (row : List ℕ) : Type 0 where
+  pub front : getD row 0 0 ≡ 0
+  pub inside : (j : ℕ) → j < L → getD row (j + 1) 0 ≡ f j
+  pub end : getD row (L + 1) 0 ≡ 0
+
+unfoldable pub shiftOf : ℕ → ℕ
+shiftOf kind = cond (eqb kind 5) 0 2

@@ -88,7 +88,8 @@ fn path_square(
     }
     let b = layout::field_b(records, p);
     let q = path_square(records, atoms, l, cells, b, table);
-    square::join(kind, &mut s, &q, l);
+    let next = layout::kind_at(records, b);
+    square::join(kind, next, &mut s, &q, l);
     s
 }
 

@@ -5,7 +5,7 @@ ghost use Prim.Native.Nat.{ℕ, _+_, _<_, _≤_, min};
 ghost use lib.ListN.{length, getD};
 ghost use Rattle.meaning.specs.Value.{moveSquare, testSquare, choiceSquare, sequenceSquare};
 ghost use Rattle.records.specs.Code.{wayOf};
-ghost use Rattle.value.specs.Cells.{at, rowAt, Holds, Raised, Rowed, capped, joinOf, nextCell};
+ghost use Rattle.value.specs.Cells.{at, rowAt, Holds, Raised, Rowed, Padded, capped, joinOf, nextCell, shiftOf};
 
 // ---- moves and tests: a diagonal each
 // How far behind k * 33 the value of a move stands: a step, kind 5, leads from k to k + 1, a back step from k + 1 to k.
@@ -47,13 +47,15 @@ pub fn test_square(table: &[u8], start: usize, l: usize) -> [u8; 1024]
 }
 
 // ---- choice and sequence
-// The first path's square becomes the choice's, kind 8, or the sequence's.
-pub fn join(kind: u8, s: &mut [u8; 1024], q: &[u8; 1024], l: usize)
-    requires { ⌜ (l ≤ 32) × (length (now s) ≡ 1024) ⌝ }
+// The first path's square becomes the choice's, kind 8, or the sequence's; `next` is the second path's kind.
+pub fn join(kind: u8, next: u8, s: &mut [u8; 1024], q: &[u8; 1024], l: usize)
+    requires { ⌜ (l ≤ 32) × (length (now s) ≡ 1024) × ((k j : ℕ) → k < l → j < l → at (now s) k j ≤ 2) × (next < 7 → (k j : ℕ) → k < l → j < l → at (now q) k j ≡ moveSquare (wayOf next) k j) ⌝ }
     ensures { λ _. ⌜ Holds l (now (s .exit)) (joinOf kind l (at (now (s .entry))) (at (now (q .entry)))) ⌝ }
 {
     if kind == 8 {
         choose(s, q);
+    } else if next < 7 {
+        follow_move(next, s, l);
     } else {
         follow(s, q, l);
     }
@@ -124,6 +126,55 @@ fn put_row(s: &mut [u8; 1024], k: usize, row: &[u8; 32])
     let mut j: usize = 0;
     while j < 32 {
         s[k * 32 + j] = row[j];
+        j += 1;
+    }
+}
+
+// ---- a move behind a path
+// Each row moves on by one place, or back.
+fn follow_move(kind: u8, s: &mut [u8; 1024], l: usize)
+    requires { ⌜ (l ≤ 32) × (length (now s) ≡ 1024) × ((k j : ℕ) → k < l → j < l → at (now s) k j ≤ 2) ⌝ }
+    ensures { λ _. ⌜ Holds l (now (s .exit)) (sequenceSquare l (at (now (s .entry))) (moveSquare (wayOf kind))) ⌝ }
+{
+    let d = shift_of(kind);
+    let mut k: usize = 0;
+    while k < l {
+        let row = padded_row(s, k, l);
+        put_from(s, k, &row, d);
+        k += 1;
+    }
+}
+
+fn shift_of(kind: u8) -> usize
+    ensures { λ d. ⌜ d ≡ shiftOf kind ⌝ }
+{
+    if kind == 5 {
+        return 0;
+    }
+    2
+}
+
+// Row k behind a 0, and before one.
+fn padded_row(s: &[u8; 1024], k: usize, l: usize) -> [u8; 34]
+    requires { ⌜ (k < 32) × (l ≤ 32) ⌝ }
+    ensures { λ row. ⌜ Padded l (at (now (s .entry)) k) row ⌝ }
+{
+    let mut row = [0u8; 34];
+    let mut j: usize = 0;
+    while j < l {
+        row[j + 1] = s[k * 32 + j];
+        j += 1;
+    }
+    row
+}
+
+fn put_from(s: &mut [u8; 1024], k: usize, row: &[u8; 34], d: usize)
+    requires { ⌜ (k < 32) × (d ≤ 2) × (length (now s) ≡ 1024) ⌝ }
+    ensures { λ _. ⌜ Rowed k (λ j. getD (now (row .entry)) (j + d) 0) (now (s .entry)) (now (s .exit)) ⌝ }
+{
+    let mut j: usize = 0;
+    while j < 32 {
+        s[k * 32 + j] = row[j + d];
         j += 1;
     }
 }

@@ -1,6 +1,8 @@
 -- `join` meets its contract: the test of the kind is the one of `joinOf`, and each arm's callee makes its square.
 use borrow.Author.Tests.{eq-eqb, ne-eqb}
-use Rattle.value.specs.Cells.{joinOf}
+use mathlib.Core.Path.{refl, sym}
+use Rattle.value.specs.Cells.{at, joinOf}
+use Rattle.value.proofs.Same.{holds-same, sequence-same}
 use native.Mathlib.Omega.{arith}
 use borrow.Author.Needs.{needs}
 use Rattle.value.proofs.square.join.Statement.{statement}
@@ -19,9 +21,25 @@ returns c =
     rw (eq-eqb (c .before .before .before .args .kind) 8 (c .before .before .if1 .taken))
     (record { size = w .size; cells = λ k j h l. w .cells k j (omega arith) (omega arith) })
 
+follow-move-requires : tie.Need-follow-move-requires
+follow-move-requires c κs = search needs
+
 returns-2 : tie.Need-returns-2
 unfolding joinOf
-returns-2 c = rw (ne-eqb (c .before .before .before .args .kind) 8 (c .before .before .if1 .left)) (c .follow .ensures)
+returns-2 c =
+    let start = c .before .before .before .before in
+    let a = start .args in
+    rw (ne-eqb (a .kind) 8 (c .before .before .before .if1 .left))
+    (holds-same (c .follow-move .ensures) (λ k j h l.
+    sequence-same (a .l) (at (a .s .now)) (at (a .s .now)) _ (at (a .q .now)) k j (λ i m. refl)
+    (λ i m. sym (start .pre .3 (c .before .before .if2 .taken) i j m l))))
+
+returns-3 : tie.Need-returns-3
+unfolding joinOf
+returns-3 c =
+    rw (ne-eqb (c .before .before .before .before .args .kind) 8 (c .before .before .before .if1 .left)) (c .follow .ensures)
 
 pub join-spec : {M : Type 1} → statement M
-join-spec = tie.close (tie.spec choose-requires follow-requires returns returns-2)
+join-spec =
+    tie.close
+    (tie.spec choose-requires follow-move-requires follow-requires returns returns-2 returns-3)
