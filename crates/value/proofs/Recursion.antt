@@ -13,7 +13,7 @@ use Rattle.meaning.specs.Tree.{pathAt}
 use Rattle.meaning.specs.Value.{Square, modalRow, moveSquare, testSquare, starSquare}
 use Rattle.meaning.proofs.Onward.{square-bound}
 use Rattle.records.specs.Code.{modeOf, wayOf}
-use Rattle.value.specs.Cells.{at, rowAt, Holds, Put, joinOf}
+use Rattle.value.specs.Cells.{at, rowAt, Holds, Put, Part, joinOf}
 use Rattle.value.specs.Valuing.{Under, Right, Asked, Valued, Squared}
 use Rattle.meaning.proofs.Nodes.{differs}
 use Rattle.records.proofs.Numbers.{path-number, formula-number}
@@ -100,11 +100,6 @@ module _ {s : List ℕ} {A L : ℕ} {cells : List ℕ} {r n : ℕ} {t : List ℕ
           holds-same h (λ k j _ _. rw num (sym (square-move w k j five (omega arith)))),
         )
 
-    pub move-is : {bytes : List ℕ} → Squared s A L cells r bytes → n < 7 → Agree L (at bytes) (moveSquare (wayOf n))
-    move-is q l k j h m =
-        let five = path-number (w .legal .formed) r (w .index) p .0 in
-        q .cells k j h m ∙ rw num (square-move w k j five (omega arith))
-
     -- A test has its formula's rows, and a square from its formula's row.
     pub test-valued : {a : ℕ} {t₁ : List ℕ} → kindByte s r ≡ 7 → a ≡ fieldA s r → Valued s A L cells a t t₁
         → Valued s A L cells r t t₁
@@ -136,6 +131,14 @@ module _ {s : List ℕ} {A L : ℕ} {cells : List ℕ} {r n : ℕ} {t : List ℕ
     square-low a q k j h l =
         let low = square-bound L (cellOf A cells) (λ k i _. w .legal .low (A * k + i)) (pathAt s a) k j h in
         omega (arith, q .cells k j h l)
+
+    pub square-part : {bytes : List ℕ} → Squared s A L cells r bytes → Part L n bytes
+    square-part {bytes} q = record {
+      low = square-low r q;
+      moves = λ l k j h m.
+          let five = path-number (w .legal .formed) r (w .index) p .0 in
+          q .cells k j h m ∙ rw num (square-move w k j five (omega arith));
+    }
 
     -- A star's square is its own star's.
     pub star-closed : {bytes : List ℕ} → n ≡ 10 → Squared s A L cells r bytes → Holds L bytes (starSquare L (at bytes))

@@ -1,22 +1,23 @@
 -- A move behind a path: it leads to j from the one instant i beside it, so the value from k to j is the path's to i. Row
--- by row, the values move by one place, and where there is no such instant a 0 comes in.
-use Prim.Native.Nat.{ℕ, zero, suc, _+_, _<_, _≤_, zero-le}
-use mathlib.Core.Path.{_≡_, refl, subst, _∙_}
+-- by row, the values move by one place, and where there is no such instant a 0 comes in. Before a path, whole rows move.
+use Prim.Native.Nat.{ℕ, zero, suc, _+_, _-_, _<_, _≤_, zero-le}
+use mathlib.Core.Path.{_≡_, refl, sym, subst, _∙_}
 use mathlib.Core.Bool.{Bool, true, false, cond}
 use mathlib.Core.List.{List}
 use mathlib.Core.Logic.{⊎-elim}
 use native.Mathlib.Nat.{le-refl, le-trans, le-antisymm}
 use native.Mathlib.Numerals.{add-one}
 use native.Mathlib.Omega.{arith}
+use borrow.Author.Tests.{eqb-true, eqb-false, ltb-true, ltb-false}
 use borrow.Author.Count.{below-more}
-use lib.Dec.{eqb}
+use lib.Dec.{eqb, ltb}
 use lib.ListN.{length, getD}
 use Rattle.meaning.specs.Record.{Way, ahead, back}
 use Rattle.meaning.specs.Value.{Square, moveSquare, sequenceSquare}
 use Rattle.meaning.proofs.Bounds.{le-or-lt, le-above}
-use Rattle.meaning.proofs.Reach.{Beside, move-beside, beside-move, sequence-elim, sequence-intro}
+use Rattle.meaning.proofs.Reach.{Beside, beside-one, move-beside, beside-move, sequence-elim, sequence-intro}
 use Rattle.records.specs.Code.{wayOf}
-use Rattle.value.specs.Cells.{at, Holds, Rowed, Padded, shiftOf}
+use Rattle.value.specs.Cells.{at, Holds, Rowed, Padded, shiftOf, besideOf}
 
 -- ---- the law
 -- An instant is beside at most one.
@@ -41,6 +42,56 @@ module _ (w : Way) (L : ℕ) (p : Square) (k j : ℕ) where
       let (q, ql, x, y) = sequence-elim L p (moveSquare w) k j v z a in
       absurd (none q ql (move-beside w q j (le-trans z y)))))
       zero-le
+
+-- A move before a path: from k it leads to the one instant beside.
+module _ (w : Way) (L : ℕ) (q : Square) (k j : ℕ) where
+  move-before : (i : ℕ) → i < L → Beside w k i → q i j ≤ 2 → sequenceSquare L (moveSquare w) q k j ≡ q i j
+  move-before i l b low =
+      le-antisymm
+      (le-above (sequenceSquare L (moveSquare w) q k j) (q i j) (λ v z a.
+      let (o, ol, x, y) = sequence-elim L (moveSquare w) q k j v z a in
+      subst (λ (o : ℕ). v ≤ q o j) (beside-one w k i o b (move-beside w k o (le-trans z x))) y))
+      (sequence-intro L (moveSquare w) q k i j (q i j) l (rw (beside-move w k i b) low) (le-refl _))
+
+  none-before : ((i : ℕ) → i < L → Beside w k i → ⊥) → sequenceSquare L (moveSquare w) q k j ≡ 0
+  none-before none =
+      le-antisymm
+      (le-above (sequenceSquare L (moveSquare w) q k j) 0 (λ v z a.
+      let (o, ol, x, y) = sequence-elim L (moveSquare w) q k j v z a in
+      absurd (none o ol (move-beside w k o (le-trans z x)))))
+      zero-le
+
+-- The instant beside is below L, or there is none.
+beside-is : (kind L k : ℕ) → k < L → besideOf kind L k < L → Beside (wayOf kind) k (besideOf kind L k)
+unfolding besideOf wayOf Beside
+beside-is kind L k h = go (eqb kind 5) (eqb k 0) refl
+  where
+    go : (t z : Bool) → eqb k 0 ≡ z → cond t (k + 1) (cond z L (k - 1)) < L
+        → Beside (cond t ahead back) k (cond t (k + 1) (cond z L (k - 1)))
+    go true z e l = refl
+    go false true e l = absurd (omega arith)
+    go false false e l = let n = eqb-false k 0 e in omega arith
+
+beside-none : (kind L k : ℕ) → L ≤ besideOf kind L k → (i : ℕ) → i < L → Beside (wayOf kind) k i → ⊥
+unfolding besideOf wayOf Beside
+beside-none kind L k = go (eqb kind 5) (eqb k 0) refl
+  where
+    go : (t z : Bool) → eqb k 0 ≡ z → L ≤ cond t (k + 1) (cond z L (k - 1)) → (i : ℕ) → i < L
+        → Beside (cond t ahead back) k i → ⊥
+    go true z e l i h b = omega arith
+    go false true e l i h b = let n = eqb-true k 0 e in omega arith
+    go false false e l i h b = let n = eqb-false k 0 e in omega arith
+
+pub led-by-move : (kind L : ℕ) (q : Square) (k j : ℕ) {i : ℕ} → ((k j : ℕ) → k < L → j < L → q k j ≤ 2) → k < L → j < L
+    → i ≡ besideOf kind L k → cond (ltb i L) (q i j) 0 ≡ sequenceSquare L (moveSquare (wayOf kind)) q k j
+led-by-move kind L q k j {i} low h l e = rw e (go (ltb (besideOf kind L k) L) refl)
+  where
+    go : (t : Bool) → ltb (besideOf kind L k) L ≡ t
+        → cond t (q (besideOf kind L k) j) 0 ≡ sequenceSquare L (moveSquare (wayOf kind)) q k j
+    go true e =
+        let m = ltb-true _ _ e in
+        sym (move-before (wayOf kind) L q k j _ m (beside-is kind L k h m) (low _ j m l))
+    go false e = sym (none-before (wayOf kind) L q k j (beside-none kind L k (ltb-false _ _ e)))
 
 -- ---- a row
 pub padded-same : {L : ℕ} {f g : ℕ → ℕ} {row : List ℕ} → Padded L f row → ((j : ℕ) → j < L → f j ≡ g j) → Padded L g row

@@ -9,14 +9,17 @@
 --   capped f p               p from k to j, but no more than f k
 --   Padded L f row           a row of 34 values: a 0, the values f j below L, and a 0
 --   shiftOf                  where the padded row starts that a move of the kind makes of a row
+--   Part L kind s            the square s has values, and those of a move if the kind is a move's
+--   besideOf kind L k        the instant to which a move of the kind leads from k, or L or more if there is none
 --   nextCell                 how far behind k * 33 the value of a move of the kind stands
-use Prim.Native.Nat.{ℕ, _+_, _*_, _<_, _≤_, min, max}
+use Prim.Native.Nat.{ℕ, _+_, _*_, _-_, _<_, _≤_, min, max}
 use mathlib.Core.Path.{_≡_}
 use mathlib.Core.Bool.{cond}
 use mathlib.Core.List.{List}
 use lib.ListN.{length, getD}
 use lib.Dec.{eqb}
-use Rattle.meaning.specs.Value.{Square, choiceSquare, sequenceSquare}
+use Rattle.meaning.specs.Value.{Square, moveSquare, choiceSquare, sequenceSquare}
+use Rattle.records.specs.Code.{wayOf}
 
 abbrev pub at : List ℕ → ℕ → ℕ → ℕ
 at s k j = getD s (k * 32 + j) 0
@@ -59,3 +62,10 @@ pub record Padded (L : ℕ) (f : ℕ → ℕ) (row : List ℕ) : Type 0 where
 
 unfoldable pub shiftOf : ℕ → ℕ
 shiftOf kind = cond (eqb kind 5) 0 2
+
+unfoldable pub besideOf : ℕ → ℕ → ℕ → ℕ
+besideOf kind L k = cond (eqb kind 5) (k + 1) (cond (eqb k 0) L (k - 1))
+
+pub record Part (L kind : ℕ) (s : List ℕ) : Type 0 where
+  pub low : (k j : ℕ) → k < L → j < L → at s k j ≤ 2
+  pub moves : kind < 7 → (k j : ℕ) → k < L → j < L → at s k j ≡ moveSquare (wayOf kind) k j

@@ -88,8 +88,9 @@ fn path_square(
     }
     let b = layout::field_b(records, p);
     let q = path_square(records, atoms, l, cells, b, table);
+    let first = layout::kind_at(records, a);
     let next = layout::kind_at(records, b);
-    square::join(kind, next, &mut s, &q, l);
+    square::join(kind, first, next, &mut s, &q, l);
     s
 }
 

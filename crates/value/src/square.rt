@@ -1,11 +1,13 @@
 // A path's square: 1,024 bytes, 32 to a row, the value from k to j at k * 32 + j. Where a loop runs over the 32 bytes of one row with the
 // other factor in a local, the compiler makes vector instructions of it.
 ghost use mathlib.Core.Path.{_≡_};
+ghost use mathlib.Core.Bool.{cond};
+ghost use lib.Dec.{ltb};
 ghost use Prim.Native.Nat.{ℕ, _+_, _<_, _≤_, min};
 ghost use lib.ListN.{length, getD};
 ghost use Rattle.meaning.specs.Value.{moveSquare, testSquare, choiceSquare, sequenceSquare};
 ghost use Rattle.records.specs.Code.{wayOf};
-ghost use Rattle.value.specs.Cells.{at, rowAt, Holds, Raised, Rowed, Padded, capped, joinOf, nextCell, shiftOf};
+ghost use Rattle.value.specs.Cells.{at, rowAt, Holds, Raised, Rowed, Padded, Part, besideOf, capped, joinOf, nextCell, shiftOf};
 
 // ---- moves and tests: a diagonal each
 // How far behind k * 33 the value of a move stands: a step, kind 5, leads from k to k + 1, a back step from k + 1 to k.
@@ -47,13 +49,15 @@ pub fn test_square(table: &[u8], start: usize, l: usize) -> [u8; 1024]
 }
 
 // ---- choice and sequence
-// The first path's square becomes the choice's, kind 8, or the sequence's; `next` is the second path's kind.
-pub fn join(kind: u8, next: u8, s: &mut [u8; 1024], q: &[u8; 1024], l: usize)
-    requires { ⌜ (l ≤ 32) × (length (now s) ≡ 1024) × ((k j : ℕ) → k < l → j < l → at (now s) k j ≤ 2) × (next < 7 → (k j : ℕ) → k < l → j < l → at (now q) k j ≡ moveSquare (wayOf next) k j) ⌝ }
+// The first path's square becomes the choice's, kind 8, or the sequence's; `first` and `next` are the two paths' kinds.
+pub fn join(kind: u8, first: u8, next: u8, s: &mut [u8; 1024], q: &[u8; 1024], l: usize)
+    requires { ⌜ (l ≤ 32) × (length (now s) ≡ 1024) × Part l first (now s) × Part l next (now q) ⌝ }
     ensures { λ _. ⌜ Holds l (now (s .exit)) (joinOf kind l (at (now (s .entry))) (at (now (q .entry)))) ⌝ }
 {
     if kind == 8 {
         choose(s, q);
+    } else if first < 7 {
+        lead_move(first, s, q, l);
     } else if next < 7 {
         follow_move(next, s, l);
     } else {
@@ -175,6 +179,66 @@ fn put_from(s: &mut [u8; 1024], k: usize, row: &[u8; 34], d: usize)
     let mut j: usize = 0;
     while j < 32 {
         s[k * 32 + j] = row[j + d];
+        j += 1;
+    }
+}
+
+// ---- a move before a path
+// Row k is the path's row of the instant beside.
+fn lead_move(kind: u8, s: &mut [u8; 1024], q: &[u8; 1024], l: usize)
+    requires { ⌜ (l ≤ 32) × (length (now s) ≡ 1024) × ((k j : ℕ) → k < l → j < l → at (now q) k j ≤ 2) ⌝ }
+    ensures { λ _. ⌜ Holds l (now (s .exit)) (sequenceSquare l (moveSquare (wayOf kind)) (at (now (q .entry)))) ⌝ }
+{
+    let mut k: usize = 0;
+    while k < l {
+        lead_row(s, k, q, beside(kind, l, k), l);
+        k += 1;
+    }
+}
+
+fn beside(kind: u8, l: usize, k: usize) -> usize
+    requires { ⌜ k < 32 ⌝ }
+    ensures { λ i. ⌜ i ≡ besideOf kind l k ⌝ }
+{
+    if kind == 5 {
+        return k + 1;
+    }
+    if k == 0 {
+        return l;
+    }
+    k - 1
+}
+
+// Row i below l, or zeros.
+fn lead_row(s: &mut [u8; 1024], k: usize, q: &[u8; 1024], i: usize, l: usize)
+    requires { ⌜ (k < 32) × (l ≤ 32) × (length (now s) ≡ 1024) ⌝ }
+    ensures { λ _. ⌜ Rowed k (λ j. cond (ltb i l) (at (now (q .entry)) i j) 0) (now (s .entry)) (now (s .exit)) ⌝ }
+{
+    if i < l {
+        copy_row(s, k, q, i);
+    } else {
+        clear_row(s, k);
+    }
+}
+
+fn copy_row(s: &mut [u8; 1024], k: usize, q: &[u8; 1024], i: usize)
+    requires { ⌜ (k < 32) × (i < 32) × (length (now s) ≡ 1024) ⌝ }
+    ensures { λ _. ⌜ Rowed k (at (now (q .entry)) i) (now (s .entry)) (now (s .exit)) ⌝ }
+{
+    let mut j: usize = 0;
+    while j < 32 {
+        s[k * 32 + j] = q[i * 32 + j];
+        j += 1;
+    }
+}
+
+fn clear_row(s: &mut [u8; 1024], k: usize)
+    requires { ⌜ (k < 32) × (length (now s) ≡ 1024) ⌝ }
+    ensures { λ _. ⌜ Rowed k (λ j. 0) (now (s .entry)) (now (s .exit)) ⌝ }
+{
+    let mut j: usize = 0;
+    while j < 32 {
+        s[k * 32 + j] = 0;
         j += 1;
     }
 }

@@ -8,7 +8,7 @@ use Rattle.records.proofs.Numbers.{path-number, formula-number}
 use Rattle.value.proofs.Table.{row-end}
 use Rattle.value.proofs.Children.{Child, ask-first, ask-second, ask-along, row-room, atom-low}
 use Rattle.records.proofs.Held.{test-first, path-first, join-second, modal-first, modal-second}
-use Rattle.value.proofs.Recursion.{square-low, move-is, move-done, test-done, star-done, join-done}
+use Rattle.value.proofs.Recursion.{square-part, move-done, test-done, star-done, join-done}
 use Rattle.value.proofs.Recursion.{constant-done, atom-done, modal-done}
 use Rattle.value.proofs.Tested.{begins, tested-done}
 use borrow.Author.Needs.{needs}
@@ -369,19 +369,24 @@ module _ (t : ℕ) where
       (omega (arith, p-start (p-else (c .before) .before) .pre .0), (ask-along (h .1 .0) (v .steady .size), h .1 .1))
 
   path-square-kind-at-requires-2 : of-path path-square-lts.Need-kind-at-requires-2
-  path-square-kind-at-requires-2 c κs = part-b (c .before .before .before .before) .1 .0 .index
+  path-square-kind-at-requires-2 c κs = part-a (p-else (c .before .before .before .before)) .1 .0 .index
+
+  path-square-kind-at-requires-3 : of-path path-square-lts.Need-kind-at-requires-3
+  path-square-kind-at-requires-3 c κs = part-b (c .before .before .before .before .before) .1 .0 .index
 
   path-square-join-requires : of-path path-square-lts.Need-join-requires
   path-square-join-requires c κs =
       let next = c .before .before in
-      let fb = next .before .before .before .before .before in
-      let s = p-start (p-else fb .before) in
-      let h = part-b fb in
-      let x = fb .before .before .before .before .path-square2 .ensures .1 in (
-        s .pre .1 .0 .legal .short,
+      let first = next .before in
+      let fb = first .before .before .before .before .before in
+      let g = part-a (p-else fb) .1 in
+      let h = part-b fb .1 in
+      let x = fb .before .before .before .before .path-square2 .ensures .1 in
+      let y = first .before .before .before .path-square3 .ensures .1 in (
+        g .0 .legal .short,
         x .size,
-        square-low (s .pre .1 .0) (p-else fb .before .before .before .kind-at .ensures) (s .pre .1 .1) _ x,
-        move-is (h .1 .0) (next .kind-at2 .ensures) (h .1 .1) (next .before .before .before .path-square3 .ensures .1),
+        square-part (g .0) (first .kind-at2 .ensures) (g .1) x,
+        square-part (h .0) (next .kind-at3 .ensures) (h .1) y,
       )
 
   path-square-same-length-4 : of-path path-square-lts.Need-same-length-4
@@ -389,15 +394,15 @@ module _ (t : ℕ) where
 
   path-square-returns-5 : of-path path-square-lts.Need-returns-5
   path-square-returns-5 c =
-      let next = c .before .before .before in
-      let fb = next .before .before .before .before .before in
+      let first = c .before .before .before .before in
+      let fb = first .before .before .before .before .before in
       let else = p-else fb in
       let s = p-start (else .before) in
       let n = eight else in
       let num = else .before .before .before .kind-at .ensures in
       let ten = fb .before .if4 .left in
       let x = fb .before .before .before .before .path-square2 .ensures in
-      let y = next .before .before .before .path-square3 .ensures in
+      let y = first .before .before .before .path-square3 .ensures in
       join-done (s .pre .1 .0) num (s .pre .1 .1) (omega arith) (omega arith) (else .before .field-a .ensures)
       (fb .field-b2 .ensures) (x .0) (x .1 .cells) (y .0) (y .1 .cells) (c .join .ensures)
 
@@ -526,6 +531,7 @@ pub +path-square+value-formula-spec : {M : Type 1} → statement M
     (path-square-field-b-requires-2 t)
     (path-square-path-square-requires-3 t)
     (path-square-kind-at-requires-2 t)
+    (path-square-kind-at-requires-3 t)
     (path-square-join-requires t)
     (path-square-same-length-4 t)
     (path-square-returns-5 t))
