@@ -23,4 +23,3 @@ pub mod Blocks
 pub mod Atoms
 pub mod Postorder
 pub mod Expander
-pub mod OneOutcome

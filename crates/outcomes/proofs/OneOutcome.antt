@@ -3,7 +3,7 @@
 -- each service is proved once.
 use mathlib.Core.Path.{_≡_, sym, _∙_}
 use Rattle.pasturequill.proofs as door
-use Rattle.theorems.specs.OneOutcome.{OneFits, OneOutcome}
+use Rattle.outcomes.specs.OneOutcome.{OneFits, OneOutcome}
 
 -- ---- two that equal a third
 same : {A : Type 0} {x y z : A} → x ≡ z → y ≡ z → x ≡ y

@@ -1,0 +1,2 @@
+-- The proof that no two outcomes fit.
+pub mod OneOutcome

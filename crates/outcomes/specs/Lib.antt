@@ -1,0 +1,2 @@
+-- No two outcomes fit a public function's contract.
+pub mod OneOutcome
