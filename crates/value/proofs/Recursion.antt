@@ -13,14 +13,14 @@ use Rattle.meaning.specs.Tree.{pathAt}
 use Rattle.meaning.specs.Value.{Square, modalRow, moveSquare, testSquare, starSquare}
 use Rattle.meaning.proofs.Onward.{square-bound}
 use Rattle.records.specs.Code.{modeOf, wayOf}
-use Rattle.value.specs.Cells.{at, rowAt, Holds, Put, Part, joinOf}
+use Rattle.squares.specs.Cells.{at, rowAt, Holds, Put, Part, joinOf}
 use Rattle.value.specs.Valuing.{Under, Right, Asked, Valued, Squared}
 use Rattle.meaning.proofs.Nodes.{differs}
 use Rattle.records.proofs.Numbers.{path-number, formula-number}
 use Rattle.value.proofs.Meant.{val, sq, value-constant, value-atom, value-modal}
-use Rattle.value.proofs.Closure.{star-again}
+use Rattle.squares.proofs.Closure.{star-again}
 use Rattle.value.proofs.Meant.{square-move, square-test, square-join, square-star}
-use Rattle.value.proofs.Same.{Agree, holds-same, joined-same, star-same, modal-same}
+use Rattle.squares.proofs.Same.{Agree, holds-same, joined-same, star-same, modal-same}
 use Rattle.value.proofs.Table.{under-all, steady-same, steady-lower, steady-then, put-right, put-steady}
 use Rattle.value.proofs.Children.{ask-first, ask-second}
 use Rattle.records.proofs.Held.{modal-first, modal-second, test-first, path-first, join-second}

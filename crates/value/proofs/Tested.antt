@@ -14,9 +14,9 @@ use Rattle.meaning.proofs.Bounds.{le-above}
 use Rattle.meaning.proofs.Fails.{and-holds}
 use Rattle.meaning.proofs.Reach.{only-there, value-there, there-bound, sequence-elim, sequence-intro}
 use Rattle.records.proofs.Held.{test-first, path-first}
-use Rattle.value.specs.Cells.{at, rowAt, Holds, capped, joinOf}
+use Rattle.squares.specs.Cells.{at, rowAt, Holds, capped, joinOf}
 use Rattle.value.specs.Valuing.{Under, Asked, Valued, Squared}
-use Rattle.value.proofs.Same.{Agree, holds-same}
+use Rattle.squares.proofs.Same.{Agree, holds-same}
 use Rattle.value.proofs.Children.{ask-first}
 use Rattle.value.proofs.Recursion.{test-valued, test-agrees, join-done}
 

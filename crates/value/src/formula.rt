@@ -6,12 +6,12 @@ ghost use lib.Dec.{eqb};
 ghost use Rattle.meaning.specs.Record.{count, formula, path, sortOf, kindAt, kindByte};
 ghost use Rattle.meaning.specs.Value.{starSquare};
 ghost use Rattle.meaning.specs.WellFormed.{WellFormed};
-ghost use Rattle.value.specs.Cells.{at, Holds};
+ghost use Rattle.squares.specs.Cells.{at, Holds};
 ghost use Rattle.value.specs.Valuing.{Asked, Valued, Squared, Moves, PathSquare};
 use crate::row;
-use crate::square;
-use crate::star;
 use records::layout;
+use squares::square;
+use squares::star;
 
 // Whether a path of the kind with the first part a is a sequence that begins with a test: it needs no square for the test.
 fn begins_with_test(records: &[u8], kind: u8, a: usize) -> bool

@@ -1,8 +1,6 @@
 // Valuing a formula over a trace.
 mod formula;
 mod row;
-mod square;
-mod star;
 
 ghost use mathlib.Core.Path.{_≡_};
 ghost use Prim.Native.Nat.{pred, _<_};

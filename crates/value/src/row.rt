@@ -5,7 +5,7 @@ ghost use lib.ListN.{length};
 ghost use Rattle.meaning.specs.Run.{cellOf};
 ghost use Rattle.meaning.specs.Value.{diamondRow, boxRow, modalRow};
 ghost use Rattle.records.specs.Code.{modeOf};
-ghost use Rattle.value.specs.Cells.{at, rowAt, Put};
+ghost use Rattle.squares.specs.Cells.{at, rowAt, Put};
 
 // Where row r starts.
 pub fn row_start(r: usize, l: usize) -> usize

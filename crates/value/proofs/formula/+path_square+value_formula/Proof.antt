@@ -29,10 +29,10 @@ use Rattle.value.proofs.row.put_constant.Reads as put-constant-reads
 use Rattle.value.proofs.row.put_modal.Reads as put-modal-reads
 use Rattle.value.proofs.row.row_start.Reads as row-start-reads
 use Rattle.value.proofs.formula.begins_with_test.Reads as begins-with-test-reads
-use Rattle.value.proofs.square.cap.Reads as cap-reads
-use Rattle.value.proofs.square.join.Reads as join-reads
-use Rattle.value.proofs.square.move_square.Reads as move-square-reads
-use Rattle.value.proofs.square.test_square.Reads as test-square-reads
+use Rattle.squares.proofs.square.cap.Reads as cap-reads
+use Rattle.squares.proofs.square.join.Reads as join-reads
+use Rattle.squares.proofs.square.move_square.Reads as move-square-reads
+use Rattle.squares.proofs.square.test_square.Reads as test-square-reads
 use Rattle.value.proofs.formula.close.Reads as close-reads
 use Rattle.value.proofs.formula.+path_square+value_formula.{statement}
 use Rattle.value.proofs.formula.+path_square+value_formula.Tie.{close}

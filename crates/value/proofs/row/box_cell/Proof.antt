@@ -6,7 +6,7 @@ use borrow.Author.Needs.{needs}
 use Rattle.meaning.specs.Three.{least}
 use Rattle.meaning.specs.Value.{boxRow}
 use Rattle.meaning.proofs.Bounds.{least-more}
-use Rattle.value.specs.Cells.{at, rowAt}
+use Rattle.squares.specs.Cells.{at, rowAt}
 use Rattle.value.proofs.row.box_cell.Statement.{statement}
 use Rattle.value.proofs.row.box_cell.Tie as tie
 

@@ -6,7 +6,7 @@ use borrow.Author.Needs.{needs}
 use Rattle.meaning.specs.Three.{greatest}
 use Rattle.meaning.specs.Value.{diamondRow}
 use Rattle.meaning.proofs.Bounds.{greatest-more}
-use Rattle.value.specs.Cells.{at, rowAt}
+use Rattle.squares.specs.Cells.{at, rowAt}
 use Rattle.value.proofs.row.diamond_cell.Statement.{statement}
 use Rattle.value.proofs.row.diamond_cell.Tie as tie
 

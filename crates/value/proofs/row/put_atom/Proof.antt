@@ -6,8 +6,8 @@ use native.Mathlib.Numerals.{add-one}
 use native.Mathlib.Omega.{arith}
 use borrow.Author.Needs.{needs}
 use Rattle.meaning.specs.Run.{cellOf}
-use Rattle.value.proofs.Stored.{stored-none, stored-more}
-use Rattle.value.proofs.Putting.{Along, along-put}
+use Rattle.squares.proofs.Stored.{stored-none, stored-more}
+use Rattle.squares.proofs.Putting.{Along, along-put}
 use Rattle.value.proofs.row.put_atom.Statement.{statement}
 use Rattle.value.proofs.row.put_atom.Tie as tie
 

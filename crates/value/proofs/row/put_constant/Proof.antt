@@ -3,8 +3,8 @@ use Prim.Native.Nat.{_-_, _≤_}
 use mathlib.Core.Path.{refl}
 use native.Mathlib.Omega.{arith}
 use borrow.Author.Needs.{needs}
-use Rattle.value.proofs.Stored.{stored-none, stored-more}
-use Rattle.value.proofs.Putting.{Along, along-put}
+use Rattle.squares.proofs.Stored.{stored-none, stored-more}
+use Rattle.squares.proofs.Putting.{Along, along-put}
 use Rattle.value.proofs.row.put_constant.Statement.{statement}
 use Rattle.value.proofs.row.put_constant.Tie as tie
 

@@ -4,9 +4,9 @@ use native.Mathlib.Omega.{arith}
 use borrow.Author.Needs.{needs}
 use Rattle.meaning.specs.Value.{modalRow}
 use Rattle.records.specs.Code.{modeOf}
-use Rattle.value.specs.Cells.{at, rowAt}
-use Rattle.value.proofs.Stored.{stored-none}
-use Rattle.value.proofs.Putting.{Along, along-modal, along-put}
+use Rattle.squares.specs.Cells.{at, rowAt}
+use Rattle.squares.proofs.Stored.{stored-none}
+use Rattle.squares.proofs.Putting.{Along, along-modal, along-put}
 use Rattle.value.proofs.row.put_modal.Statement.{statement}
 use Rattle.value.proofs.row.put_modal.Tie as tie
 

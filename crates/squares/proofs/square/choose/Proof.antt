@@ -1,0 +1,65 @@
+-- `choose` meets its contract: each turn makes one more value the greater of the two.
+use Prim.Native.Nat.{max, _+_, _*_, _-_, _≤_}
+use mathlib.Core.Path.{refl, _∙_}
+use lib.ListN.{getD}
+use Rattle.meaning.specs.Value.{choiceSquare}
+use Rattle.squares.proofs.Stored.{Stored, stored-none, stored-more}
+use native.Mathlib.Omega.{arith}
+use borrow.Author.Needs.{needs}
+use Rattle.squares.proofs.square.choose.Statement.{statement}
+use Rattle.squares.proofs.square.choose.Tie as tie
+
+abbrev Inv-loop : tie.InvT-loop
+Inv-loop s₀ q i₀ s i = (i ≤ 1024) × Stored (λ m. m) (λ m. max (getD s₀ m 0) (getD q m 0)) s₀ s i
+
+abbrev μ-loop : tie.MeasureT-loop
+μ-loop s₀ q i₀ s i = 1024 - i
+
+loop-holds : tie.Need-loop-holds Inv-loop μ-loop
+loop-holds c = (omega arith, stored-none)
+
+element-copy-out-greatest : tie.Need-element-copy-out-greatest Inv-loop μ-loop
+element-copy-out-greatest c = search needs
+
+element-copy-out-greatest-2 : tie.Need-element-copy-out-greatest-2 Inv-loop μ-loop
+element-copy-out-greatest-2 c = search needs
+
+greatest-requires : tie.Need-greatest-requires Inv-loop μ-loop
+greatest-requires c κs = search needs
+
+element-write-s : tie.Need-element-write-s Inv-loop μ-loop
+element-write-s c = search needs
+
+add-i : tie.Need-add-i Inv-loop μ-loop
+add-i c = search needs
+
+loop-less : tie.Need-loop-less Inv-loop μ-loop
+loop-less c = search needs
+
+loop-again : tie.Need-loop-again Inv-loop μ-loop
+loop-again c =
+    let turn = c .before .before .before .before .loop in
+    let own = turn .inv .1 .off (turn .i) (λ m h z. omega arith) in
+    (omega arith, stored-more (turn .inv .1) refl (omega arith) (omega (arith, c .greatest .ensures)) (λ m h. h))
+
+returns : tie.Need-returns Inv-loop μ-loop
+unfolding choiceSquare
+returns c =
+    let w = c .before .loop .inv .1 in
+    record { size = w .size ∙ c .before .before .pre; cells = λ k j h l. w .on (k * 32 + j) (omega arith) }
+
+pub choose-spec : {M : Type 1} → statement M
+choose-spec =
+    tie.close
+    (tie.spec
+    Inv-loop
+    μ-loop
+    loop-holds
+    element-copy-out-greatest
+    element-copy-out-greatest-2
+    greatest-requires
+    element-write-s
+    add-i
+    loop-less
+    loop-again
+    returns)

@@ -1,0 +1,66 @@
+-- `move_square` meets its contract: each turn marks the next place of the diagonal of the kind.
+use Prim.Native.Nat.{_≤_, _-_}
+use mathlib.Core.Path.{refl}
+use Rattle.squares.proofs.Stored.{stored-none, stored-more}
+use Rattle.squares.proofs.Diagonal.{Diagonal, move-marked, next-bound}
+use native.Mathlib.Omega.{arith}
+use borrow.Author.Needs.{needs}
+use Rattle.squares.proofs.square.move_square.Statement.{statement}
+use Rattle.squares.proofs.square.move_square.Tie as tie
+
+abbrev Inv-loop : tie.InvT-loop
+Inv-loop kind l d s₀ k₀ s k = (d ≤ 32) × (k ≤ 31) × Diagonal d (λ i. 2) s₀ s k
+
+abbrev μ-loop : tie.MeasureT-loop
+μ-loop kind l d s₀ k₀ s k = l - k
+
+next-cell-requires : tie.Need-next-cell-requires Inv-loop μ-loop
+next-cell-requires c κs = search needs
+
+loop-holds : tie.Need-loop-holds Inv-loop μ-loop
+loop-holds c = (omega (arith, next-bound (c .before .args .kind)), omega arith, stored-none)
+
+add-loop : tie.Need-add-loop Inv-loop μ-loop
+add-loop c = search needs
+
+mul-s : tie.Need-mul-s Inv-loop μ-loop
+mul-s c = search needs
+
+add-s : tie.Need-add-s Inv-loop μ-loop
+add-s c = search needs
+
+array-write-s : tie.Need-array-write-s Inv-loop μ-loop
+array-write-s c = search needs
+
+add-k : tie.Need-add-k Inv-loop μ-loop
+add-k c = search needs
+
+loop-less : tie.Need-loop-less Inv-loop μ-loop
+loop-less c = search needs
+
+loop-again : tie.Need-loop-again Inv-loop μ-loop
+loop-again c =
+    (omega arith, omega arith, stored-more (c .before .loop .inv .2) refl (omega arith) refl (λ i h. omega arith))
+
+returns : tie.Need-returns Inv-loop μ-loop
+returns c =
+    let start = c .before .before .before in
+    move-marked (start .args .kind) (start .pre) (c .before .loop .inv .1) (omega arith)
+    (rw (← c .before .before .next-cell .ensures) (c .before .loop .inv .2))
+
+pub move-square-spec : {M : Type 1} → statement M
+move-square-spec =
+    tie.close
+    (tie.spec
+    Inv-loop
+    μ-loop
+    next-cell-requires
+    loop-holds
+    add-loop
+    mul-s
+    add-s
+    array-write-s
+    add-k
+    loop-less
+    loop-again
+    returns)

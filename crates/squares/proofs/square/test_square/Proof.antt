@@ -1,0 +1,60 @@
+-- `test_square` meets its contract: each turn stores the next value of the row on the diagonal.
+use Prim.Native.Nat.{_≤_, _-_}
+use mathlib.Core.Path.{refl}
+use Rattle.squares.specs.Cells.{rowAt}
+use Rattle.squares.proofs.Stored.{stored-none, stored-more}
+use Rattle.squares.proofs.Diagonal.{Diagonal, test-marked}
+use native.Mathlib.Omega.{arith}
+use borrow.Author.Needs.{needs}
+use Rattle.squares.proofs.square.test_square.Statement.{statement}
+use Rattle.squares.proofs.square.test_square.Tie as tie
+
+abbrev Inv-loop : tie.InvT-loop
+Inv-loop table start l s₀ k₀ s k = (k ≤ l) × Diagonal 0 (rowAt table start) s₀ s k
+
+abbrev μ-loop : tie.MeasureT-loop
+μ-loop table start l s₀ k₀ s k = l - k
+
+loop-holds : tie.Need-loop-holds Inv-loop μ-loop
+loop-holds c = (omega arith, stored-none)
+
+add-s : tie.Need-add-s Inv-loop μ-loop
+add-s c = search needs
+
+shared-slice-read-s : tie.Need-shared-slice-read-s Inv-loop μ-loop
+shared-slice-read-s c = search needs
+
+mul-s : tie.Need-mul-s Inv-loop μ-loop
+mul-s c = search needs
+
+array-write-s : tie.Need-array-write-s Inv-loop μ-loop
+array-write-s c = search needs
+
+add-k : tie.Need-add-k Inv-loop μ-loop
+add-k c = search needs
+
+loop-less : tie.Need-loop-less Inv-loop μ-loop
+loop-less c = search needs
+
+loop-again : tie.Need-loop-again Inv-loop μ-loop
+loop-again c =
+    (omega arith, stored-more (c .before .before .loop .inv .1) (omega arith) (omega arith) refl (λ i h. omega arith))
+
+returns : tie.Need-returns Inv-loop μ-loop
+returns c = test-marked (c .before .before .pre .0) (omega arith) (c .before .loop .inv .1)
+
+pub test-square-spec : {M : Type 1} → statement M
+test-square-spec =
+    tie.close
+    (tie.spec
+    Inv-loop
+    μ-loop
+    loop-holds
+    add-s
+    shared-slice-read-s
+    mul-s
+    array-write-s
+    add-k
+    loop-less
+    loop-again
+    returns)

@@ -1,0 +1,58 @@
+-- `row_of` meets its contract: after j turns the copy has the row's first j values.
+use Prim.Native.Nat.{_-_, _≤_}
+use mathlib.Core.Path.{refl}
+use native.Mathlib.Omega.{arith}
+use Rattle.squares.specs.Cells.{at}
+use Rattle.squares.proofs.Stored.{Stored, stored-none, stored-more}
+use borrow.Author.Needs.{needs}
+use Rattle.squares.proofs.star.row_of.Statement.{statement}
+use Rattle.squares.proofs.star.row_of.Tie as tie
+
+abbrev Inv-loop : tie.InvT-loop
+Inv-loop s k row₀ j₀ row j = (j ≤ 32) × Stored (λ i. i) (at s k) row₀ row j
+
+abbrev μ-loop : tie.MeasureT-loop
+μ-loop s k row₀ j₀ row j = 32 - j
+
+loop-holds : tie.Need-loop-holds Inv-loop μ-loop
+loop-holds c = (omega arith, stored-none)
+
+mul-row : tie.Need-mul-row Inv-loop μ-loop
+mul-row c = search needs
+
+add-row : tie.Need-add-row Inv-loop μ-loop
+add-row c = search needs
+
+element-copy-out-row : tie.Need-element-copy-out-row Inv-loop μ-loop
+element-copy-out-row c = search needs
+
+array-write-row : tie.Need-array-write-row Inv-loop μ-loop
+array-write-row c = search needs
+
+add-j : tie.Need-add-j Inv-loop μ-loop
+add-j c = search needs
+
+loop-less : tie.Need-loop-less Inv-loop μ-loop
+loop-less c = search needs
+
+loop-again : tie.Need-loop-again Inv-loop μ-loop
+loop-again c = (omega arith, stored-more (c .before .before .loop .inv .1) refl (omega arith) refl (λ i h. h))
+
+returns : tie.Need-returns Inv-loop μ-loop
+returns c = λ j h. c .before .loop .inv .1 .on j (omega arith)
+
+pub row-of-spec : {M : Type 1} → statement M
+row-of-spec =
+    tie.close
+    (tie.spec
+    Inv-loop
+    μ-loop
+    loop-holds
+    mul-row
+    add-row
+    element-copy-out-row
+    array-write-row
+    add-j
+    loop-less
+    loop-again
+    returns)

@@ -1,0 +1,44 @@
+-- `stand` meets its contract: the diagonal's first k places are 2, and nothing else has changed.
+use Prim.Native.Nat.{_-_, _≤_}
+use mathlib.Core.Path.{refl}
+use native.Mathlib.Omega.{arith}
+use Rattle.squares.proofs.Stored.{stored-none, stored-more}
+use Rattle.squares.proofs.Diagonal.{Diagonal, stand-marked}
+use borrow.Author.Needs.{needs}
+use Rattle.squares.proofs.star.stand.Statement.{statement}
+use Rattle.squares.proofs.star.stand.Tie as tie
+
+abbrev Inv-loop : tie.InvT-loop
+Inv-loop s₀ l k₀ s k = (k ≤ l) × Diagonal 0 (λ i. 2) s₀ s k
+
+abbrev μ-loop : tie.MeasureT-loop
+μ-loop s₀ l k₀ s k = l - k
+
+loop-holds : tie.Need-loop-holds Inv-loop μ-loop
+loop-holds c = (search needs, stored-none)
+
+mul-s : tie.Need-mul-s Inv-loop μ-loop
+mul-s c = search needs
+
+element-write-s : tie.Need-element-write-s Inv-loop μ-loop
+element-write-s c = search needs
+
+add-k : tie.Need-add-k Inv-loop μ-loop
+add-k c = search needs
+
+loop-less : tie.Need-loop-less Inv-loop μ-loop
+loop-less c = search needs
+
+loop-again : tie.Need-loop-again Inv-loop μ-loop
+loop-again c =
+    (omega arith, stored-more (c .before .loop .inv .1) (omega arith) (omega arith) refl (λ i h. omega arith))
+
+returns : tie.Need-returns Inv-loop μ-loop
+returns c =
+    let pre = c .before .before .pre in
+    stand-marked (pre .0) (pre .1) (omega arith) (c .before .loop .inv .1)
+
+pub stand-spec : {M : Type 1} → statement M
+stand-spec =
+    tie.close
+    (tie.spec Inv-loop μ-loop loop-holds mul-s element-write-s add-k loop-less loop-again returns)
