@@ -145,13 +145,18 @@ static void dense_sequences(struct formula *f)
     diamond(f, p, atom(f, 0));
 }
 
+/* The path that goes back where an atom holds: G? ; back. */
+static size_t go_back(struct formula *f, size_t i)
+{
+    size_t tested = test(f, atom(f, i));
+    return sequence(f, tested, back(f));
+}
+
 static void long_sequence(struct formula *f)
 {
     size_t p = go(f, 0);
-    for (size_t i = 1; left(f) > 2 + 6; i++) {
-        size_t q = i % 2 == 0 ? go(f, i % 32) : sequence(f, test(f, atom(f, i % 32)), back(f));
-        p = sequence(f, p, q);
-    }
+    for (size_t i = 1; left(f) > 2 + 6; i++)
+        p = sequence(f, p, (i % 2 == 0 ? go : go_back)(f, i % 32));
     diamond(f, p, atom(f, 0));
 }
 
