@@ -1,4 +1,4 @@
-/* A rule's words: its place, then its literals, each a symbol that may be of the previous instant and may be negated. */
+/* A rule's words: its place, then its literals: each is a symbol, and may be of the previous instant and negated. */
 #ifndef RULES_H
 #define RULES_H
 

@@ -27,12 +27,37 @@ static inline size_t starred(struct formula *f, size_t p)
 }
 
 /* A step, and one part after the other joined to it. */
-static inline size_t joined(struct formula *f, size_t (*join)(struct formula *f, size_t p, size_t q), size_t (*part)(struct formula *f))
+static inline size_t joined(struct formula *f, size_t (*join)(struct formula *f, size_t p, size_t q),
+                            size_t (*part)(struct formula *f))
 {
     size_t p = step(f);
     while (left(f) > 3)
         p = join(f, p, part(f));
     return p;
+}
+
+/* ---- formulas as deep as there are records for */
+static inline void moves_in_sequence(struct formula *f)
+{
+    size_t p = joined(f, sequence, back);
+    diamond(f, p, atom(f, 0));
+}
+
+static inline void moves_in_choice(struct formula *f)
+{
+    size_t p = joined(f, choice, back);
+    diamond(f, p, atom(f, 0));
+}
+
+static inline void stars_of_stars(struct formula *f)
+{
+    size_t p = starred(f, step(f));
+    diamond(f, p, atom(f, 0));
+}
+
+static inline void negations(struct formula *f)
+{
+    negated(f, atom(f, 0));
 }
 
 #endif

@@ -1,6 +1,7 @@
-/* How much stack the library takes for the deepest formulas of 255 records. Each is valued on the main thread, under whatever limit the
- * program was started with, and then in a thread whose 4 MiB of stack were filled with a pattern before: how far that was written over is
- * the stack that it took, but for what the deepest frame leaves unwritten. The tables must be those of the valuer by bits. */
+/* How much stack the library takes for the deepest formulas of 255 records. Each is valued on the main thread, under
+ * whatever limit the program was started with, and then in a thread whose 4 MiB of stack were filled with a pattern
+ * before: how far that was written over is the stack that it took, but for what the deepest frame leaves unwritten. The
+ * tables must be those of the valuer by bits. */
 #include <pthread.h>
 #include <stdio.h>
 #include <stdlib.h>
@@ -15,18 +16,6 @@
 enum { INSTANTS = 32, STACK = 4 << 20, PATTERN = 0xa5 };
 
 /* ---- the deepest formulas, by what lies inside what */
-static void stars(struct formula *f)
-{
-    size_t p = starred(f, step(f));
-    diamond(f, p, atom(f, 0));
-}
-
-static void first_parts(struct formula *f)
-{
-    size_t p = joined(f, sequence, back);
-    diamond(f, p, atom(f, 0));
-}
-
 /* The parts that come last lie deepest: all first parts stand before them. */
 static void second_parts(struct formula *f)
 {
@@ -37,17 +26,6 @@ static void second_parts(struct formula *f)
     for (size_t i = 0; i < firsts; i++)
         p = sequence(f, firsts - 1 - i, p);
     diamond(f, p, atom(f, 0));
-}
-
-static void choices(struct formula *f)
-{
-    size_t p = joined(f, choice, back);
-    diamond(f, p, atom(f, 0));
-}
-
-static void tests(struct formula *f)
-{
-    negated(f, atom(f, 0));
 }
 
 static void starred_tests(struct formula *f)
@@ -77,11 +55,11 @@ static const struct shape {
     void (*build)(struct formula *f);
 } shapes[] = {
     {"one atom", nothing_deep},
-    {"stars inside stars", stars},
-    {"sequences in first parts", first_parts},
+    {"stars inside stars", stars_of_stars},
+    {"sequences in first parts", moves_in_sequence},
     {"sequences in second parts", second_parts},
-    {"choices inside choices", choices},
-    {"tests inside tests", tests},
+    {"choices inside choices", moves_in_choice},
+    {"tests inside tests", negations},
     {"stars of tests inside each other", starred_tests},
     {"modalities inside modalities", modalities},
 };
@@ -96,8 +74,8 @@ struct call {
 static void *value(void *argument)
 {
     struct call *c = argument;
-    c->got = pasturequill_value(c->formula.records, PASTUREQUILL_RECORD_SIZE * c->formula.n, 1, INSTANTS, c->cells, sizeof c->cells,
-                                c->table, c->formula.n * INSTANTS);
+    c->got = pasturequill_value(c->formula.records, PASTUREQUILL_RECORD_SIZE * c->formula.n, 1, INSTANTS, c->cells,
+                                sizeof c->cells, c->table, c->formula.n * INSTANTS);
     return NULL;
 }
 
@@ -108,7 +86,8 @@ static void check(const char *name, const struct call *c)
     struct task task = {c->formula.records, c->formula.n, 1, INSTANTS, c->cells, table};
     uint8_t expected = value_by(value_bits, &task);
     if (c->got.refusal != 0 || c->got.value != expected || memcmp(c->table, table, c->formula.n * INSTANTS) != 0) {
-        fprintf(stderr, "%s: refusal %d, value %d, expected value %d and the same table\n", name, c->got.refusal, c->got.value, expected);
+        fprintf(stderr, "%s: refusal %d, value %d, expected value %d and the same table\n", name, c->got.refusal,
+                c->got.value, expected);
         exit(1);
     }
 }
@@ -146,7 +125,8 @@ int main(void)
         perror("stack");
         return 2;
     }
-    printf("\nStack for formulas of up to 255 records at %d instants; the main thread's limit is %.0f KiB, the threads have %d KiB:\n\n",
+    printf("\nStack that valuing takes for formulas of up to 255 records at %d instants; the main thread's limit is\n"
+           "%.0f KiB, the threads have %d KiB:\n\n",
            INSTANTS, (double)limit.rlim_cur / 1024, STACK / 1024);
     printf("%-34s %7s %12s\n", "what lies inside what", "records", "stack, KiB");
     for (size_t i = 0; i < sizeof shapes / sizeof *shapes; i++) {

@@ -1,4 +1,4 @@
-/* Time of several contenders over the same work, taken in turn, so that whatever else the machine does falls on all alike. */
+/* Time of several contenders over the same work, taken in turn: whatever else the machine does falls on all alike. */
 #ifndef TIMING_H
 #define TIMING_H
 

@@ -1,13 +1,14 @@
-/* The time of one call of pasturequill_translate, beside that of a plain translator in C without and with the refusals: all in one run and
- * in turn. The formulas are the longest there are, each of another shape, and small ones as they are written in practice. */
-#include <math.h>
+/* The time of one call of pasturequill_translate, beside that of a plain translator in C without and with the refusals:
+ * all in one run and in turn. The formulas are the longest there are, each of another shape, and small ones as they are
+ * written in practice. */
 #include <stdio.h>
 #include <stdlib.h>
 #include <string.h>
 
+#include "comparison.h"
+#include "damage.h"
 #include "rules.h"
 #include "shapes.h"
-#include "timing.h"
 #include "translator.h"
 
 enum { ATOMS = PASTUREQUILL_MOST_ATOMS, MOST_WORDS = RULE_SIZE * PASTUREQUILL_MOST_RULES };
@@ -91,7 +92,8 @@ static void response(struct formula *f)
     box(f, always, box(f, asked, answered));
 }
 
-/* The elevator's path of source 004, which moves but for its last part: ((up? ; step)* ; serve? ; step)* ; (wait? ; step)*. */
+/* The elevator's path of source 004, which moves but for its last part: ((up? ; step)* ; serve? ; step)* ; (wait? ;
+ * step)*. */
 static void elevator(struct formula *f)
 {
     size_t up = star(f, go(f, 0)), serve = go(f, 1), wait = star(f, go(f, 2));
@@ -117,80 +119,85 @@ static struct work works[] = {
 enum { WORKS = sizeof works / sizeof *works };
 
 /* ---- the three */
-static size_t size_of(const struct work *w)
-{
-    return PASTUREQUILL_RECORD_SIZE * w->formula.n;
-}
-
-static pasturequill_counted by_plain(const struct work *w, uint16_t *rules)
-{
-    return (pasturequill_counted){.count = translate_plain(w->formula.records, w->formula.n, ATOMS, rules)};
-}
-
-static pasturequill_counted by_checked(const struct work *w, uint16_t *rules)
-{
-    return translate_checked(w->formula.records, size_of(w), ATOMS, rules, MOST_WORDS);
-}
-
-static pasturequill_counted by_library(const struct work *w, uint16_t *rules)
-{
-    return pasturequill_translate(w->formula.records, size_of(w), ATOMS, rules, MOST_WORDS);
-}
-
 enum { PLAIN, CHECKED, LIBRARY, CONTENDERS };
 
-static const struct contender {
-    const char *name;
-    pasturequill_counted (*run)(const struct work *w, uint16_t *rules);
-} contenders[CONTENDERS] = {{"plain", by_plain}, {"checked", by_checked}, {"library", by_library}};
+static pasturequill_counted translate(int contender, const struct formula *f, uint16_t *rules)
+{
+    if (contender == PLAIN)
+        return (pasturequill_counted){.count = translate_plain(f->records, f->n, ATOMS, rules)};
+    return (contender == LIBRARY ? pasturequill_translate : translate_checked)(
+        f->records, PASTUREQUILL_RECORD_SIZE * f->n, ATOMS, rules, MOST_WORDS);
+}
 
 static void run(int contender, const void *work, size_t rounds)
 {
     static uint16_t rules[MOST_WORDS];
     for (size_t i = 0; i < rounds; i++)
-        contenders[contender].run(work, rules);
+        translate(contender, work, rules);
 }
 
-/* Stops unless all three accept the formula and write the same words, and the same words stay behind these. */
-static void agree(struct work *w)
+static struct comparison comparison = {
+    .service = "translate",
+    .workload = "formula",
+    .sizes = "records  rules",
+    .contenders = CONTENDERS,
+    .names = {"plain", "checked", "library"},
+    .against = {"plain, checked input", "plain, same refusals"},
+    .run = run,
+};
+
+/* ---- the same answers */
+/* What the library gives for a formula; stops unless those from this contender on give and write the same. */
+static pasturequill_counted translate_by_all(const char *name, const struct formula *f, int first)
 {
     static uint16_t rules[CONTENDERS][MOST_WORDS];
-    memset(rules, 0xff, sizeof rules);
-    w->rules = by_plain(w, rules[PLAIN]).count;
-    for (int c = PLAIN + 1; c < CONTENDERS; c++) {
-        pasturequill_counted got = contenders[c].run(w, rules[c]);
-        if (got.refusal != 0 || got.count != w->rules || memcmp(rules[c], rules[PLAIN], sizeof rules[c]) != 0) {
-            fprintf(stderr, "%s: %s differs from %s: refusal %d, count %zu\n", w->name, contenders[c].name, contenders[PLAIN].name,
+    memset(rules, UINT8_MAX, sizeof rules);
+    pasturequill_counted expected = translate(LIBRARY, f, rules[LIBRARY]);
+    for (int c = first; c < LIBRARY; c++) {
+        pasturequill_counted got = translate(c, f, rules[c]);
+        if (got.refusal != expected.refusal || got.count != expected.count ||
+            memcmp(rules[c], rules[LIBRARY], sizeof rules[c]) != 0) {
+            fprintf(stderr, "%s: %s differs from the library: refusal %d, count %zu\n", name, comparison.names[c],
                     got.refusal, (size_t)got.count);
             exit(1);
         }
+    }
+    return expected;
+}
+
+/* Stops unless all three accept the formula and write the same words, and those that refuse say the same where bytes
+ * are changed. */
+static void agree(struct work *w)
+{
+    pasturequill_counted got = translate_by_all(w->name, &w->formula, PLAIN);
+    if (got.refusal != PASTUREQUILL_ACCEPTED) {
+        fprintf(stderr, "%s: refusal %d\n", w->name, got.refusal);
+        exit(1);
+    }
+    w->rules = got.count;
+    for (int change = 0; change < DAMAGES; change++) {
+        struct formula f = w->formula;
+        damage(&f);
+        translate_by_all(w->name, &f, CHECKED);
     }
 }
 
 int main(void)
 {
-    double logarithms[CONTENDERS] = {0};
-
+    seed = 37;
     for (size_t i = 0; i < WORKS; i++) {
         works[i].build(&works[i].formula);
         agree(&works[i]);
     }
-    printf("\nplain is a translator in C that takes checked input; checked is the same with all refusals, and takes any input; library is\n"
-           "pasturequill_translate, which takes any input too, so that lib/checked compares like with like.\n");
-    printf("The three translators agree. Nanoseconds a call, medians of %d samples of %d ms or more, taken in turn:\n\n", SAMPLES,
-           LEAST_SAMPLE_MS);
-    printf("%-26s %7s %6s %9s %9s %9s %11s %12s\n", "formula", "records", "rules", "plain", "checked", "library", "lib/plain",
-           "lib/checked");
+    printf("\nTranslate: plain is a translator in C that takes checked input; checked is the same with all refusals;\n"
+           "library is pasturequill_translate. The three agree on every word; those that refuse, for damaged records\n"
+           "too.\n");
+    begin_table(&comparison);
     for (size_t i = 0; i < WORKS; i++) {
-        const struct work *w = &works[i];
-        double medians[CONTENDERS];
-        measure(run, CONTENDERS, w, 1, medians);
-        printf("%-26s %7zu %6zu %9.0f %9.0f %9.0f %11.2f %12.2f\n", w->name, w->formula.n, w->rules, medians[PLAIN], medians[CHECKED],
-               medians[LIBRARY], medians[LIBRARY] / medians[PLAIN], medians[LIBRARY] / medians[CHECKED]);
-        fflush(stdout);
-        for (int c = 0; c < CONTENDERS; c++)
-            logarithms[c] += log(medians[LIBRARY] / medians[c]) / WORKS;
+        char sizes[16];
+        snprintf(sizes, sizeof sizes, "%7zu %6zu", works[i].formula.n, works[i].rules);
+        compare(&comparison, works[i].name, sizes, &works[i].formula, 1);
     }
-    printf("%-26s %44s %11.2f %12.2f\n", "geometric mean", "", exp(logarithms[PLAIN]), exp(logarithms[CHECKED]));
+    end_table(&comparison);
     return 0;
 }

@@ -1,71 +1,8 @@
 /* The plain translator, each line of document 01's list of rules as a line here; then its refusals. */
 #include "translator.h"
 
-#include "rules.h"
-
-enum { RECORD_SIZE = PASTUREQUILL_RECORD_SIZE, MOST_RECORDS = PASTUREQUILL_MOST_RECORDS, MOST_ATOMS = PASTUREQUILL_MOST_ATOMS };
-
-static uint8_t kind_of(const uint8_t *records, size_t r) { return records[RECORD_SIZE * r]; }
-static size_t field_a(const uint8_t *records, size_t r) { return records[RECORD_SIZE * r + 2] | (size_t)records[RECORD_SIZE * r + 3] << 8; }
-static size_t field_b(const uint8_t *records, size_t r) { return records[RECORD_SIZE * r + 4] | (size_t)records[RECORD_SIZE * r + 5] << 8; }
-
-/* ---- rules */
-struct rules {
-    uint16_t *at;
-    size_t count;
-};
-
-static void put(struct rules *to, int place, int body1, int body2, int head1, int head2, int head3)
-{
-    uint16_t *words = to->at + RULE_SIZE * to->count++;
-    words[0] = (uint16_t)place;
-    words[1] = (uint16_t)body1;
-    words[2] = (uint16_t)body2;
-    words[3] = (uint16_t)head1;
-    words[4] = (uint16_t)head2;
-    words[5] = (uint16_t)head3;
-}
-
-/* u and v are worth the same at all instants of the place. */
-static void put_same(struct rules *to, int place, int u, int v)
-{
-    put(to, place, u, YES, v, NO, NO);
-    put(to, place, v, YES, u, NO, NO);
-}
-
-/* x is the smaller of u and v. */
-static void put_smaller(struct rules *to, int x, int u, int v)
-{
-    put(to, EVERY, x, YES, u, NO, NO);
-    put(to, EVERY, x, YES, v, NO, NO);
-    put(to, EVERY, u, v, x, NO, NO);
-}
-
-/* x is the greater of u and v. */
-static void put_greater(struct rules *to, int x, int u, int v)
-{
-    put(to, EVERY, x, YES, u, v, NO);
-    put(to, EVERY, u, YES, x, NO, NO);
-    put(to, EVERY, v, YES, x, NO, NO);
-}
-
-/* x is what u implies of v. */
-static void put_implication(struct rules *to, int x, int u, int v)
-{
-    put(to, EVERY, x, u, v, NO, NO);
-    put(to, EVERY, NOT + u, YES, x, NO, NO);
-    put(to, EVERY, v, YES, x, NO, NO);
-    put(to, EVERY, YES, YES, x, u, NOT + v);
-}
-
-/* At the end of the trace that a move would leave, a diamond is false and a box is true. */
-static void put_end(struct rules *to, int place, int x, int box)
-{
-    if (box)
-        put(to, place, YES, YES, x, NO, NO);
-    else
-        put(to, place, x, YES, NO, NO, NO);
-}
+#include "records.h"
+#include "writing.h"
 
 size_t translate_plain(const uint8_t *records, size_t n, size_t atoms, uint16_t *rules)
 {
@@ -254,7 +191,7 @@ static uint8_t refusal(const uint8_t *records, size_t records_size, uint64_t ato
 {
     if (records_size == 0 || records_size % RECORD_SIZE != 0 || records_size > RECORD_SIZE * MOST_RECORDS)
         return 1;
-    if (atoms > MOST_ATOMS)
+    if (atoms > PASTUREQUILL_MOST_ATOMS)
         return 8;
     size_t n = records_size / RECORD_SIZE;
     for (size_t r = 0; r < n; r++) {

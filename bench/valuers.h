@@ -1,11 +1,12 @@
-/* Three valuers in C that the library's time is measured against. Each takes a task that pasturequill_value accepts, refuses nothing and
- * fills the table. What each does with squares is its own; they share what any valuer needs besides. */
+/* Three valuers in C that the library's time is measured against. Each takes a task that pasturequill_value accepts,
+ * refuses nothing and fills the table. What each does with squares is its own; they share what any valuer needs
+ * besides. */
 #ifndef VALUERS_H
 #define VALUERS_H
 
 #include <string.h>
 
-#include "pasturequill.h"
+#include "records.h"
 
 struct task {
     const uint8_t *records; /* a formula of n */
@@ -22,7 +23,7 @@ valuer value_plain;
 /* Byte squares of 32 bytes a row, whole rows at a time, a star in one sweep: the best that bytes give. */
 valuer value_rows;
 
-/* Two masks of 32 bits a row, one for values of at least 1 and one for values of 2: the fastest that we know. */
+/* Two masks of 32 bits a row, for values of at least 1 and for values of 2: the fastest that we know. */
 valuer value_bits;
 
 /* The whole formula's value at the first instant, by one of them. */
@@ -35,12 +36,10 @@ static inline uint8_t value_by(valuer *valuer, const struct task *t)
 /* ---- what they share */
 enum { MOST = PASTUREQUILL_MOST_INSTANTS };
 
-/* A record's bytes; of its fields the low ones, as the high ones are 0 in a formula. */
-enum { KIND = 0, FIELD_A = 2, FIELD_B = 4 };
-
+/* A record's bytes; of its fields the low ones tell all, as the high ones are 0 in a formula. */
 static inline const uint8_t *record_of(const struct task *t, size_t r)
 {
-    return t->records + PASTUREQUILL_RECORD_SIZE * r;
+    return t->records + RECORD_SIZE * r;
 }
 
 /* The row of a record that is false, true or an atom, in bytes. */

@@ -1,5 +1,5 @@
-/* The workloads: the most that 255 records and 32 instants can ask for, each in another way; rules as they are written in practice; and
- * random formulas from a fixed seed. */
+/* The workloads: the most that 255 records and 32 instants can ask for, each in another way; rules as they are written
+ * in practice; and random formulas from a fixed seed. */
 #include "workloads.h"
 
 #include <string.h>
@@ -69,8 +69,8 @@ static void respond(struct formula *f)
     box(f, always, box(f, asked, answered));
 }
 
-/* The elevator of source 004 with 11 floors: it goes up, serves, goes down, serves, and waits four times. Besides the rule's atoms there are
- * those that say what ready means. */
+/* The elevator of source 004 with 11 floors: it goes up, serves, goes down, serves, and waits four times. Besides the
+ * rule's atoms there are those that say what ready means. */
 enum { FLOORS = 11, AT = ELEVATOR_ATOMS, CALLED = AT + FLOORS, MEANT_ATOMS = CALLED + FLOORS };
 
 static void ride(struct input *in)
