@@ -78,7 +78,7 @@ static void value_path(const struct task *t, size_t r, square out)
         repeat(instants, p, out);
         break;
     }
-    memset(t->table + r * instants, 0, instants);
+    clear_row(t, r);
 }
 
 static void value_formula(const struct task *t, size_t r)

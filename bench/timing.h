@@ -4,7 +4,7 @@
 
 #include <stddef.h>
 
-enum { SAMPLES = 15, LEAST_SAMPLE_MS = 20, MOST_CONTENDERS = 4 };
+enum { SAMPLES = 15, LEAST_SAMPLE_MS = 20, MOST_CONTENDERS = 6 };
 
 /* Does the work so many rounds by one contender. */
 typedef void rounds_of(int contender, const void *work, size_t rounds);

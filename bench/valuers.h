@@ -1,4 +1,4 @@
-/* Three valuers in C that the library's time is measured against. Each takes a task that pasturequill_value accepts,
+/* Five valuers in C that the library's time is measured against. Each takes a task that pasturequill_value accepts,
  * refuses nothing and fills the table. What each does with squares is its own; they share what any valuer needs
  * besides. */
 #ifndef VALUERS_H
@@ -20,11 +20,12 @@ typedef void valuer(const struct task *t);
 /* Byte squares, triple loops, a star by passes until nothing changes: as one first writes it. */
 valuer value_plain;
 
-/* Byte squares of 32 bytes a row, whole rows at a time, a star in one sweep: the best that bytes give. */
-valuer value_rows;
+/* Byte squares of 32 bytes a row, whole rows at a time, a star in one sweep; and the same with every short way that the
+ * library takes. */
+valuer value_rows, value_rows_best;
 
-/* Two masks of 32 bits a row, for values of at least 1 and for values of 2: the fastest that we know. */
-valuer value_bits;
+/* Two masks of 32 bits a row, for values of at least 1 and for values of 2; and the same with every short way. */
+valuer value_bits, value_bits_best;
 
 /* The whole formula's value at the first instant, by one of them. */
 static inline uint8_t value_by(valuer *valuer, const struct task *t)
@@ -40,6 +41,12 @@ enum { MOST = PASTUREQUILL_MOST_INSTANTS };
 static inline const uint8_t *record_of(const struct task *t, size_t r)
 {
     return t->records + RECORD_SIZE * r;
+}
+
+/* The row of a path record. */
+static inline void clear_row(const struct task *t, size_t r)
+{
+    memset(t->table + r * t->instants, 0, t->instants);
 }
 
 /* The row of a record that is false, true or an atom, in bytes. */

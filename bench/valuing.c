@@ -1,4 +1,4 @@
-/* The time of one call of pasturequill_value, beside that of three valuers in C, over the workloads: all in one run and
+/* The time of one call of pasturequill_value, beside that of five valuers in C, over the workloads: all in one run and
  * in turn, so that whatever else the machine does falls on all alike. The library's time includes its checks; the
  * valuers in C have none. */
 #include <stdio.h>
@@ -11,10 +11,10 @@
 
 enum { MOST_TABLE = PASTUREQUILL_MOST_RECORDS * PASTUREQUILL_MOST_INSTANTS };
 
-/* ---- the four */
-enum { PLAIN, ROWS, BITS, LIBRARY, CONTENDERS };
+/* ---- the six */
+enum { PLAIN, ROWS, BITS, ROWS_BEST, BITS_BEST, LIBRARY, CONTENDERS };
 
-static valuer *const valuers[LIBRARY] = {value_plain, value_rows, value_bits};
+static valuer *const valuers[LIBRARY] = {value_plain, value_rows, value_bits, value_rows_best, value_bits_best};
 
 static uint8_t by_library(const struct input *in, uint8_t *table)
 {
@@ -45,8 +45,9 @@ static struct comparison comparison = {
     .workload = "workload",
     .sizes = "records   L",
     .contenders = CONTENDERS,
-    .names = {"plain", "rows", "bits", "library"},
-    .against = {"plain loops, checked input", "rows, checked input", "bits, checked input"},
+    .names = {"plain", "rows", "bits", "rows+", "bits+", "library"},
+    .against = {"plain loops, checked input", "rows, checked input", "bits, checked input",
+                "rows with all short ways, checked input", "bits with all short ways, checked input"},
     .run = run,
 };
 
@@ -80,8 +81,9 @@ int main(void)
     size_t workload_count = build_workloads();
     for (size_t i = 0; i < workload_count; i++)
         agree(&workloads[i]);
-    printf("\nValue: plain, rows and bits are valuers in C that take checked input; library is pasturequill_value,\n"
-           "which takes any input. The four agree on every byte.\n");
+    printf("\nValue: plain, rows and bits are valuers in C that take checked input; rows+ and bits+ are the last two\n"
+           "with every short way that the library takes; library is pasturequill_value, which takes any input. The\n"
+           "six agree on every byte.\n");
     begin_table(&comparison);
     for (size_t i = 0; i < workload_count; i++) {
         const struct workload *w = &workloads[i];
