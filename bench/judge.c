@@ -1,7 +1,6 @@
 /* The plain judge, each sentence of document 01 as a line or a loop; then its refusals. */
 #include "judge.h"
 
-#include "rules.h"
 #include "values.h"
 
 static uint8_t literal(uint16_t word, size_t width, const uint8_t *cells, size_t k)
@@ -48,28 +47,29 @@ pasturequill_judged judge_plain(const uint16_t *rules, size_t n, size_t width, s
     return (pasturequill_judged){.holds = 1};
 }
 
-static uint8_t refusal(const uint16_t *rules, size_t rules_size, uint64_t width, uint64_t instants, const uint8_t *cells, size_t cells_size)
+static uint8_t refusal(const uint16_t *rules, size_t rules_size, uint64_t width, uint64_t instants,
+                       const uint8_t *cells, size_t cells_size)
 {
-    if (width > PASTUREQUILL_MOST_COLUMNS || instants < 1 || instants > PASTUREQUILL_MOST_INSTANTS || cells_size != width * instants)
-        return 8;
-    if (rules_size % RULE_SIZE != 0 || rules_size > RULE_SIZE * PASTUREQUILL_MOST_RULES)
-        return 13;
+    if (is_wrong_size(width, instants, cells_size))
+        return PASTUREQUILL_WRONG_SIZE;
+    if (is_wrong_length(rules_size))
+        return PASTUREQUILL_WRONG_RULES;
     for (size_t at = 0; at < rules_size; at += RULE_SIZE) {
         const uint16_t *rule = rules + at;
         if (rule[0] > LAST)
-            return 13;
+            return PASTUREQUILL_WRONG_RULES;
         for (size_t j = 1; j < RULE_SIZE; j++)
             if ((rule[j] & SYMBOL) >= 2 + width || ((rule[j] & PREVIOUS) && rule[0] != LATER))
-                return 13;
+                return PASTUREQUILL_WRONG_RULES;
     }
     for (size_t at = 0; at < cells_size; at++)
         if (cells[at] > 2)
-            return 9;
+            return PASTUREQUILL_WRONG_CELL;
     return 0;
 }
 
-pasturequill_judged judge_checked(const uint16_t *rules, size_t rules_size, uint64_t width, uint64_t instants, const uint8_t *cells,
-                                  size_t cells_size)
+pasturequill_judged judge_checked(const uint16_t *rules, size_t rules_size, uint64_t width, uint64_t instants,
+                                  const uint8_t *cells, size_t cells_size)
 {
     uint8_t number = refusal(rules, rules_size, width, instants, cells, cells_size);
     if (number != 0)

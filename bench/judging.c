@@ -1,5 +1,6 @@
-/* The time of one call of pasturequill_judge, beside that of a plain judge in C without and with the refusals: all in
- * one run and in turn. All rules hold, so that every rule is looked at everywhere. */
+/* The time of one call of pasturequill_judge, beside that of a plain judge in C without and with the refusals and of
+ * one by bits with the refusals: all in one run and in turn. All rules hold, so that every rule is looked at
+ * everywhere. */
 #include <stdio.h>
 #include <stdlib.h>
 
@@ -31,15 +32,17 @@ static struct work {
 
 enum { WORKS = sizeof works / sizeof *works };
 
-/* ---- the three */
-enum { PLAIN, CHECKED, LIBRARY, CONTENDERS };
+/* ---- the four */
+enum { PLAIN, CHECKED, BITS, LIBRARY, CONTENDERS };
+
+static judge *const judges[CONTENDERS] = {
+    [CHECKED] = judge_checked, [BITS] = judge_bits, [LIBRARY] = pasturequill_judge};
 
 static pasturequill_judged judge_by(int contender, const struct filled *f)
 {
     if (contender == PLAIN)
         return judge_plain(f->words, f->rules, f->width, f->instants, f->cells);
-    return (contender == LIBRARY ? pasturequill_judge : judge_checked)(
-        f->words, RULE_SIZE * f->rules, f->width, f->instants, f->cells, f->width * f->instants);
+    return judges[contender](f->words, RULE_SIZE * f->rules, f->width, f->instants, f->cells, f->width * f->instants);
 }
 
 static void run(int contender, const void *work, size_t rounds)
@@ -53,8 +56,8 @@ static struct comparison comparison = {
     .workload = "rules",
     .sizes = "number   W   L",
     .contenders = CONTENDERS,
-    .names = {"plain", "checked", "library"},
-    .against = {"plain loops, checked input", "plain loops, same refusals"},
+    .names = {"plain", "checked", "bits", "library"},
+    .against = {"plain loops, checked input", "plain loops, same refusals", "bits, same refusals"},
     .run = run,
 };
 
@@ -121,8 +124,9 @@ int main(void)
         fill(&works[i].filled);
         agree(&works[i]);
     }
-    printf("\nJudge: plain is a judge in C that takes checked input; checked is the same with all refusals;\n"
-           "library is pasturequill_judge. The three agree; those that refuse, for damaged input too.\n");
+    printf("\nJudge: plain is a judge in C that takes checked input; checked is the same with all refusals; bits\n"
+           "takes all instants of a rule at once, with all refusals; library is pasturequill_judge. The four agree;\n"
+           "those that refuse, for damaged input too.\n");
     begin_table(&comparison);
     for (size_t i = 0; i < WORKS; i++) {
         const struct filled *f = &works[i].filled;
