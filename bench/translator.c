@@ -1,6 +1,7 @@
 /* The plain translator, each line of document 01's list of rules as a line here; then its refusals. */
 #include "translator.h"
 
+#include "checker.h"
 #include "records.h"
 #include "writing.h"
 
@@ -73,55 +74,6 @@ size_t translate_plain(const uint8_t *records, size_t n, size_t atoms, uint16_t 
 }
 
 /* ---- refusals */
-enum field { NOTHING, NUMBER, FORMULA, PATH };
-
-static const struct line {
-    enum field sort, a, b;
-} lines[] = {
-    [PASTUREQUILL_FALSE] = {FORMULA, NOTHING, NOTHING},  [PASTUREQUILL_TRUE] = {FORMULA, NOTHING, NOTHING},
-    [PASTUREQUILL_ATOM] = {FORMULA, NUMBER, NOTHING},    [PASTUREQUILL_DIAMOND] = {FORMULA, PATH, FORMULA},
-    [PASTUREQUILL_BOX] = {FORMULA, PATH, FORMULA},       [PASTUREQUILL_STEP] = {PATH, NOTHING, NOTHING},
-    [PASTUREQUILL_BACK] = {PATH, NOTHING, NOTHING},      [PASTUREQUILL_TEST] = {PATH, FORMULA, NOTHING},
-    [PASTUREQUILL_CHOICE] = {PATH, PATH, PATH},          [PASTUREQUILL_SEQUENCE] = {PATH, PATH, PATH},
-    [PASTUREQUILL_STAR] = {PATH, PATH, NOTHING},
-};
-
-static int is_child(enum field field) { return field == FORMULA || field == PATH; }
-
-static uint8_t record_refusal(const uint8_t *records, size_t r, uint64_t atoms)
-{
-    size_t a = field_a(records, r), b = field_b(records, r);
-    if (kind_of(records, r) > PASTUREQUILL_STAR)
-        return 2;
-    struct line line = lines[kind_of(records, r)];
-    if (records[RECORD_SIZE * r + 1] != 0 || (line.a == NOTHING && a != 0) || (line.b == NOTHING && b != 0))
-        return 3;
-    if ((is_child(line.a) && a >= r) || (is_child(line.b) && b >= r))
-        return 4;
-    if (line.a == NUMBER && a >= atoms)
-        return 5;
-    if ((is_child(line.a) && lines[kind_of(records, a)].sort != line.a) || (is_child(line.b) && lines[kind_of(records, b)].sort != line.b))
-        return 6;
-    return 0;
-}
-
-static int is_tree(const uint8_t *records, size_t n)
-{
-    uint8_t places[MOST_RECORDS] = {0}; /* 2 stands for several */
-    for (size_t r = 0; r < n; r++) {
-        struct line line = lines[kind_of(records, r)];
-        size_t a = field_a(records, r), b = field_b(records, r);
-        if (is_child(line.a))
-            places[a] = places[a] ? 2 : 1;
-        if (is_child(line.b))
-            places[b] = places[b] ? 2 : 1;
-    }
-    for (size_t r = 0; r + 1 < n; r++)
-        if (places[r] != 1)
-            return 0;
-    return 1;
-}
-
 /* Stars from the first, each 12 then 11. */
 static uint8_t star_refusal(const uint8_t *records, size_t n)
 {
@@ -151,15 +103,23 @@ static uint8_t star_refusal(const uint8_t *records, size_t n)
             break;
         case PASTUREQUILL_STAR:
             if (ways[a] == (FORTH | BACK))
-                return 12;
+                return PASTUREQUILL_STAR_TURNS;
             if (still[a])
-                return 11;
+                return PASTUREQUILL_STAR_STANDS;
             ways[r] = ways[a];
             still[r] = 1;
             break;
         }
     }
     return 0;
+}
+
+/* How many rules come from one record. */
+static size_t rules_from(uint8_t kind, uint8_t box)
+{
+    if (kind <= PASTUREQUILL_BOX || kind == PASTUREQUILL_SEQUENCE)
+        return 2;
+    return kind == PASTUREQUILL_TEST && box ? 4 : 3;
 }
 
 static size_t rules_of(const uint8_t *records, size_t n)
@@ -182,34 +142,25 @@ static size_t rules_of(const uint8_t *records, size_t n)
             box[a] = box[r];
             break;
         }
-        count += kind <= PASTUREQUILL_BOX || kind == PASTUREQUILL_SEQUENCE ? 2 : kind == PASTUREQUILL_TEST && box[r] ? 4 : 3;
+        count += rules_from(kind, box[r]);
     }
     return count;
 }
 
 static uint8_t refusal(const uint8_t *records, size_t records_size, uint64_t atoms, size_t rules_size)
 {
-    if (records_size == 0 || records_size % RECORD_SIZE != 0 || records_size > RECORD_SIZE * MOST_RECORDS)
-        return 1;
-    if (atoms > PASTUREQUILL_MOST_ATOMS)
-        return 8;
-    size_t n = records_size / RECORD_SIZE;
-    for (size_t r = 0; r < n; r++) {
-        uint8_t number = record_refusal(records, r, atoms);
-        if (number != 0)
-            return number;
-    }
-    if (lines[kind_of(records, n - 1)].sort == PATH)
-        return 6;
-    if (!is_tree(records, n))
-        return 7;
-    uint8_t number = star_refusal(records, n);
+    uint8_t number = check_core(records, records_size, atoms);
     if (number != 0)
         return number;
-    return rules_size < RULE_SIZE * rules_of(records, n) ? 10 : 0;
+    size_t n = records_size / RECORD_SIZE;
+    number = star_refusal(records, n);
+    if (number != 0)
+        return number;
+    return rules_size < RULE_SIZE * rules_of(records, n) ? PASTUREQUILL_NO_ROOM : PASTUREQUILL_ACCEPTED;
 }
 
-pasturequill_counted translate_checked(const uint8_t *records, size_t records_size, uint64_t atoms, uint16_t *rules, size_t rules_size)
+pasturequill_counted translate_checked(const uint8_t *records, size_t records_size, uint64_t atoms, uint16_t *rules,
+                                       size_t rules_size)
 {
     uint8_t number = refusal(records, records_size, atoms, rules_size);
     if (number != 0)
