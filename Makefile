@@ -9,7 +9,8 @@ demo:
 test:
 	bash .ci/run
 
-# Speed beside three valuers, a judge and a translator in C, and the stack that the deepest formulas take.
+# Speed of each service beside peers in C, how its time grows, the stack that the deepest formulas take, and the stack
+# frames of the library's functions.
 bench:
 	bash bench/run
 
