@@ -20,7 +20,7 @@ use Rattle.records.proofs.fault as fault
 use Rattle.expand.proofs as expand
 use Rattle.trace.proofs as trace
 use Rattle.value.proofs as value
-use Rattle.rules.proofs as rules
+use Rattle.judge.proofs as judge
 use Rattle.translate.proofs as translate
 use Rattle.printing.proofs as printing
 use Rattle.pasturequill.proofs as door
@@ -53,10 +53,10 @@ pub record OneOutcome : Type 0 where
   -- trace
   pub wrong-size : OneFits trace.wrong_size.Kinds.ps trace.wrong_size.Kinds.r trace.wrong_size.Reads.Post
   pub cells-refusal : OneFits trace.cells_refusal.Kinds.ps trace.cells_refusal.Kinds.r trace.cells_refusal.Reads.Post
-  -- expand, value, rules, translate, printing
+  -- expand, value, judge, translate, printing
   pub expand : OneFits expand.expand.Kinds.ps expand.expand.Kinds.r expand.expand.Reads.Post
   pub value : OneFits value.value.Kinds.ps value.value.Kinds.r value.value.Reads.Post
-  pub judge : OneFits rules.judge.Kinds.ps rules.judge.Kinds.r rules.judge.Reads.Post
+  pub judge : OneFits judge.judge.Kinds.ps judge.judge.Kinds.r judge.judge.Reads.Post
   pub translate : OneFits translate.translate.Kinds.ps translate.translate.Kinds.r translate.translate.Reads.Post
   pub text : OneFits printing.text.Kinds.ps printing.text.Kinds.r printing.text.Reads.Post
   -- the front door

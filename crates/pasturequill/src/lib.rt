@@ -2,7 +2,7 @@
 // the answer and every lent buffer, on every input. Document 01's words for these are in the crate `meaning`, in specs/Service.
 ghost use mathlib.Core.Path.{_≡_};
 ghost use Rattle.meaning.specs.Service.{checkAnswer, expandAnswer, expandAfter, valueAnswer, valueAfter, translateAnswer, translateAfter, judgeAnswer};
-use rules::Judged;
+use judge::Judged;
 use translate::Counted;
 use value::Valued;
 
@@ -63,5 +63,5 @@ pub extern "C" fn pasturequill_judge(
     ensures rule { λ v. ⌜ v .rule ≡ judgeAnswer (now (rules .entry)) width instants (now (cells .entry)) .rule ⌝ }
     ensures instant { λ v. ⌜ v .instant ≡ judgeAnswer (now (rules .entry)) width instants (now (cells .entry)) .instant ⌝ }
 {
-    rules::judge(rules, width, instants, cells)
+    judge::judge(rules, width, instants, cells)
 }

@@ -1,0 +1,47 @@
+-- `first_refusal` meets its contract: each test is the next ground of the list, and each `return` gives the first that applies.
+use mathlib.Core.Path.{_≡_, sym, _∙_}
+use mathlib.Core.Bool.{false}
+use borrow.Author.Needs.{needs}
+use Rattle.meaning.specs.Refusal.{ground8-cells, mostColumns}
+use Rattle.trace.proofs.Fitting.{size-fits}
+use Rattle.judge.proofs.Grounds.{refused-8, refused-13, cells-decide}
+use Rattle.judge.proofs.first_refusal.Statement.{statement}
+use Rattle.judge.proofs.first_refusal.Tie as tie
+
+-- What is known behind the first test.
+fits : (c : tie.Else1)
+    → let a = c .before .before .before .before .args in
+    ground8-cells mostColumns (a .width) (a .instants) (a .cells .now) .applies ≡ false
+fits c = sym (c .before .wrong-size .ensures) ∙ c .if1 .left
+
+wrong-size-requires : tie.Need-wrong-size-requires
+wrong-size-requires c κs = search needs
+
+returns : tie.Need-returns
+returns c = refused-8 _ _ _ _ (sym (c .before .wrong-size .ensures) ∙ c .if1 .taken)
+
+rules-refusal-requires : tie.Need-rules-refusal-requires
+rules-refusal-requires c κs = size-fits _ _ _ _ (fits c) .0
+
+returns-2 : tie.Need-returns-2
+returns-2 c = refused-13 _ _ _ _ (fits (c .before .before)) (c .before .rules-refusal .ensures) (c .if2 .taken)
+
+cells-refusal-requires : tie.Need-cells-refusal-requires
+cells-refusal-requires c κs = search needs
+
+returns-3 : tie.Need-returns-3
+returns-3 c =
+    let two = c .before in
+    let formed = sym (two .before .rules-refusal .ensures) ∙ two .if2 .left in
+    cells-decide _ _ _ _ (fits (two .before .before)) formed (c .cells-refusal .ensures)
+
+pub first-refusal-spec : {M : Type 1} → statement M
+first-refusal-spec =
+    tie.close
+    (tie.spec
+    wrong-size-requires
+    returns
+    rules-refusal-requires
+    returns-2
+    cells-refusal-requires
+    returns-3)

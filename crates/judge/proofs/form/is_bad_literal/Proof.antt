@@ -1,0 +1,42 @@
+-- `form::is_bad_literal` meets its contract: its tests in turn are those of a bad literal.
+use mathlib.Core.Path.{sym, _∙_}
+use borrow.Author.Tests.{le-leb, lt-leb}
+use borrow.Author.Needs.{needs}
+use Rattle.meaning.specs.Refusal.{badLiteral}
+use Rattle.judge.proofs.form.is_bad_literal.Statement.{statement}
+use Rattle.judge.proofs.form.is_bad_literal.Tie as tie
+
+add-if1 : tie.Need-add-if1
+add-if1 c = search needs
+
+symbol-requires : tie.Need-symbol-requires
+symbol-requires c κs = search needs
+
+returns : tie.Need-returns
+unfolding badLiteral
+returns c = simp (sym (c .before .symbol .ensures), le-leb _ _ (c .if1 .taken))
+
+is-previous-requires : tie.Need-is-previous-requires
+is-previous-requires c κs = search needs
+
+returns-2 : tie.Need-returns-2
+unfolding badLiteral
+returns-2 c =
+    simp (
+      sym (c .before .before .before .symbol .ensures),
+      lt-leb _ _ (c .before .before .if1 .left),
+      sym (c .before .is-previous .ensures) ∙ c .if2 .taken,
+    )
+
+returns-3 : tie.Need-returns-3
+unfolding badLiteral
+returns-3 c =
+    simp (
+      sym (c .before .before .before .symbol .ensures),
+      lt-leb _ _ (c .before .before .if1 .left),
+      sym (c .before .is-previous .ensures) ∙ c .if2 .left,
+    )
+
+pub is-bad-literal-spec : {M : Type 1} → statement M
+is-bad-literal-spec =
+    tie.close (tie.spec add-if1 symbol-requires returns is-previous-requires returns-2 returns-3)

@@ -1,0 +1,27 @@
+-- `form::rules_refusal` meets its contract: the length is right, or its number comes before those of the rules.
+use borrow.Author.Tests.{eq-eqb, ne-eqb, lt-ltb, le-ltb}
+use borrow.Author.Needs.{needs}
+use Rattle.meaning.specs.Refusal.{firstOf, ground13-length}
+use Rattle.judge.proofs.form.rules_refusal.Statement.{statement}
+use Rattle.judge.proofs.form.rules_refusal.Tie as tie
+
+returns : tie.Need-returns
+unfolding firstOf ground13-length
+returns c = simp (ne-eqb _ _ (c .if1 .taken))
+
+mul-if2 : tie.Need-mul-if2
+mul-if2 c = search needs
+
+returns-2 : tie.Need-returns-2
+unfolding firstOf ground13-length
+returns-2 c = simp (eq-eqb _ _ (c .before .if1 .left), lt-ltb _ _ (c .if2 .taken))
+
+each-refusal-requires : tie.Need-each-refusal-requires
+each-refusal-requires c κs = search needs
+
+returns-3 : tie.Need-returns-3
+unfolding firstOf ground13-length
+returns-3 c = simp (eq-eqb _ _ (c .before .before .if1 .left), le-ltb _ _ (c .before .if2 .left)) (c .each-refusal .ensures)
+
+pub rules-refusal-spec : {M : Type 1} → statement M
+rules-refusal-spec = tie.close (tie.spec returns mul-if2 returns-2 each-refusal-requires returns-3)

@@ -1,0 +1,51 @@
+-- `literal::symbol_at` meets its contract: symbols 0 and 1 are values, and any other has its cell in row k.
+use Prim.Native.Nat.{_+_, _*_, _-_, _<_}
+use mathlib.Core.Path.{sym}
+use native.Mathlib.Omega.{arith}
+use lib.ListN.{length}
+use borrow.Author.Needs.{needs}
+use Rattle.meaning.specs.Rule.{symbolValue}
+use Rattle.judge.proofs.Words.{column, in-row}
+use Rattle.judge.proofs.literal.symbol_at.Statement.{statement}
+use Rattle.judge.proofs.literal.symbol_at.Tie as tie
+
+within : (c : tie.Else2)
+    → let a = c .before .before .args in a .width * a .k + (a .symbol - 2) < length (a .cells .now)
+within c =
+    let s = c .before .before in
+    rw (s .pre .2) (in-row (s .args .width) (s .args .k) (s .args .l) (s .pre .1) (omega arith))
+
+returns : tie.Need-returns
+unfolding symbolValue
+returns c = rw (c .if1 .taken)
+
+returns-2 : tie.Need-returns-2
+unfolding symbolValue
+returns-2 c = rw (c .if2 .taken)
+
+mul-result : tie.Need-mul-result
+mul-result c = let h = within c in omega arith
+
+sub-result : tie.Need-sub-result
+sub-result c = search needs
+
+add-result : tie.Need-add-result
+add-result c = let h = within c in omega arith
+
+shared-slice-read-result : tie.Need-shared-slice-read-result
+shared-slice-read-result c = let h = within (c .before) in omega arith
+
+returns-3 : tie.Need-returns-3
+returns-3 c = sym (column _ _ _ (omega arith))
+
+pub symbol-at-spec : {M : Type 1} → statement M
+symbol-at-spec =
+    tie.close
+    (tie.spec
+    returns
+    returns-2
+    mul-result
+    sub-result
+    add-result
+    shared-slice-read-result
+    returns-3)

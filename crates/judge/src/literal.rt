@@ -1,0 +1,99 @@
+// Words of a rule: literals and places.
+ghost use mathlib.Core.Path.{_≡_};
+ghost use Prim.Native.Nat.{pred, _+_, _*_, _<_};
+ghost use lib.ListN.{length};
+ghost use Rattle.meaning.specs.Run.{cellOf};
+ghost use Rattle.meaning.specs.Rule.{symbolOf, isPrevious, isNegated, symbolValue, plain, literal};
+ghost use Rattle.judge.specs.Filled.{startOf, endOf};
+use rules::FIRST;
+use rules::LAST;
+use rules::LATER;
+use rules::NEGATED;
+use rules::PREVIOUS;
+
+pub fn symbol(word: u16) -> usize
+    ensures { λ s. ⌜ s ≡ symbolOf word ⌝ }
+{
+    (word % PREVIOUS) as usize
+}
+
+pub fn is_previous(word: u16) -> bool
+    ensures { λ b. ⌜ b ≡ isPrevious word ⌝ }
+{
+    word / PREVIOUS % 2 == 1
+}
+
+fn is_negated(word: u16) -> bool
+    ensures { λ b. ⌜ b ≡ isNegated word ⌝ }
+{
+    word / NEGATED % 2 == 1
+}
+
+// A place's instants are those from its start up to its end.
+pub fn start_of(l: usize, place: u16) -> usize
+    requires { ⌜ 0 < l ⌝ }
+    ensures { λ k. ⌜ k ≡ startOf l place ⌝ }
+{
+    if place == LATER {
+        return 1;
+    }
+    if place == LAST {
+        return l - 1;
+    }
+    0
+}
+
+pub fn end_of(l: usize, place: u16) -> usize
+    ensures { λ k. ⌜ k ≡ endOf l place ⌝ }
+{
+    if place == FIRST {
+        return 1;
+    }
+    l
+}
+
+// The value of a literal at instant k.
+pub fn literal_at(word: u16, width: usize, l: usize, cells: &[u8], k: usize) -> u8
+    requires { ⌜ (symbolOf word < 2 + width) × (k < l) × (length (now cells) ≡ width * l) ⌝ }
+    ensures { λ v. ⌜ v ≡ literal (cellOf width (now (cells .entry))) word k ⌝ }
+{
+    let u = plain_at(word, width, l, cells, k);
+    if is_negated(word) {
+        return three::negation(u);
+    }
+    u
+}
+
+// The same, with no regard to the mark of negation.
+fn plain_at(word: u16, width: usize, l: usize, cells: &[u8], k: usize) -> u8
+    requires { ⌜ (symbolOf word < 2 + width) × (k < l) × (length (now cells) ≡ width * l) ⌝ }
+    ensures { λ v. ⌜ v ≡ plain (cellOf width (now (cells .entry))) word k ⌝ }
+{
+    if is_previous(word) {
+        return symbol_at(symbol(word), width, l, cells, before(k));
+    }
+    symbol_at(symbol(word), width, l, cells, k)
+}
+
+fn before(k: usize) -> usize
+    ensures { λ q. ⌜ q ≡ pred k ⌝ }
+{
+    if k == 0 {
+        return 0;
+    }
+    k - 1
+}
+
+// The value of a symbol: 0 false, 1 true, 2 + i column i.
+fn symbol_at(symbol: usize, width: usize, l: usize, cells: &[u8], k: usize) -> u8
+    requires { ⌜ (symbol < 2 + width) × (k < l) × (length (now cells) ≡ width * l) ⌝ }
+    ensures { λ v. ⌜ v ≡ symbolValue (cellOf width (now (cells .entry))) symbol k ⌝ }
+{
+    if symbol == 0 {
+        return 0;
+    }
+    if symbol == 1 {
+        return 2;
+    }
+    cells[width * k + (symbol - 2)]
+}
