@@ -36,7 +36,7 @@ fn too_many(atoms: u64) -> bool
 fn is_stray(u: u8, v: usize) -> bool
     ensures { λ b. ⌜ b ≡ stray (useOf u) v ⌝ }
 {
-    if u == 0 {
+    if u == shape::NOTHING {
         return v != 0;
     }
     false
@@ -46,7 +46,7 @@ fn is_stray(u: u8, v: usize) -> bool
 fn is_late(u: u8, v: usize, r: usize) -> bool
     ensures { λ b. ⌜ b ≡ late (useOf u) v r ⌝ }
 {
-    if u < 2 {
+    if u < shape::FORMULA {
         return false;
     }
     r <= v
@@ -56,7 +56,7 @@ fn is_late(u: u8, v: usize, r: usize) -> bool
 fn is_beyond(u: u8, v: usize, atoms: u64) -> bool
     ensures { λ b. ⌜ b ≡ beyond (useOf u) v atoms ⌝ }
 {
-    if u == 1 {
+    if u == shape::ATOM {
         return atoms <= v as u64;
     }
     false
@@ -67,7 +67,7 @@ fn is_misfit(s: &[u8], u: u8, v: usize) -> bool
     requires { ⌜ (u ≤ 3) × (2 ≤ u → v < count (now s)) ⌝ }
     ensures { λ b. ⌜ b ≡ misfit (now (s .entry)) (useOf u) v ⌝ }
 {
-    if u < 2 {
+    if u < shape::FORMULA {
         return false;
     }
     shape::sort_of(layout::kind_at(s, v)) != u
@@ -139,7 +139,7 @@ fn add_place(counts: &mut [u8; 255], u: u8, v: usize)
     requires { ⌜ length (now counts) ≡ mostRecords ⌝ }
     ensures { λ _. ⌜ Added u v (now (counts .entry)) (now (counts .exit)) ⌝ }
 {
-    if u < 2 {
+    if u < shape::FORMULA {
         return;
     }
     if v < layout::MOST_RECORDS {
@@ -191,7 +191,7 @@ pub fn tree_refusal(s: &[u8], full: bool, atoms: u64) -> u8
         return x;
     }
     let last = layout::record_count(s) - 1;
-    if shape::sort_of(layout::kind_at(s, last)) != 2 {
+    if shape::sort_of(layout::kind_at(s, last)) != shape::FORMULA {
         return 6;
     }
     places_refusal(s)

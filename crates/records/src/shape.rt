@@ -3,102 +3,55 @@ ghost use mathlib.Core.Path.{_≡_};
 ghost use Rattle.meaning.specs.Record.{kindOf, sortOf, useA, useB, known};
 ghost use Rattle.records.specs.Code.{sortCode, useCode};
 
-// Kinds are numbered below this.
-const KINDS: u8 = 48;
+// What a field holds. The last two number the sorts of records too.
+pub const NOTHING: u8 = 0;
 
-// What field a holds, by kind: 0 nothing, 1 an atom number, 2 a formula, 3 a path. A table of these would be laid on the stack at each call.
+pub const ATOM: u8 = 1;
+
+pub const FORMULA: u8 = 2;
+
+pub const PATH: u8 = 3;
+
+// What field a holds, by kind. A table would be laid on the stack at each call.
 pub fn use_a(kind: u8) -> u8
     ensures { λ u. ⌜ u ≡ useCode (useA (kindOf kind)) ⌝ }
 {
-    if kind < 2 {
-        return 0;
+    match kind {
+        2 => ATOM,
+        3..=4 | 8..=10 => PATH,
+        7 | 32..=35 | 38..=47 => FORMULA,
+        _ => NOTHING,
     }
-    if kind < 3 {
-        return 1;
-    }
-    if kind < 5 {
-        return 3;
-    }
-    if kind < 7 {
-        return 0;
-    }
-    if kind < 8 {
-        return 2;
-    }
-    if kind < 11 {
-        return 3;
-    }
-    if kind < 32 {
-        return 0;
-    }
-    if kind < 36 {
-        return 2;
-    }
-    if kind < 38 {
-        return 0;
-    }
-    if kind < 48 {
-        return 2;
-    }
-    0
 }
 
 // What field b holds.
 pub fn use_b(kind: u8) -> u8
     ensures { λ u. ⌜ u ≡ useCode (useB (kindOf kind)) ⌝ }
 {
-    if kind < 3 {
-        return 0;
+    match kind {
+        3..=4 | 33..=35 | 46..=47 => FORMULA,
+        8..=9 => PATH,
+        _ => NOTHING,
     }
-    if kind < 5 {
-        return 2;
-    }
-    if kind < 8 {
-        return 0;
-    }
-    if kind < 10 {
-        return 3;
-    }
-    if kind < 33 {
-        return 0;
-    }
-    if kind < 36 {
-        return 2;
-    }
-    if kind < 46 {
-        return 0;
-    }
-    if kind < 48 {
-        return 2;
-    }
-    0
 }
 
-// The sort of a record, numbered as the fields that hold such a child are: 2 a formula, 3 a path. Kinds 5 to 10 are paths.
+// The sort of a record, numbered as the fields that hold such a child are.
 pub fn sort_of(kind: u8) -> u8
     ensures { λ t. ⌜ t ≡ sortCode (sortOf (kindOf kind)) ⌝ }
 {
-    if kind < 5 {
-        return 2;
+    match kind {
+        5..=10 => PATH,
+        _ => FORMULA,
     }
-    if kind <= 10 {
-        return 3;
-    }
-    2
 }
 
 // Whether a service takes the kind: the core, and the shorthands where `full` says so.
 pub fn takes(full: bool, kind: u8) -> bool
     ensures { λ t. ⌜ t ≡ known full (kindOf kind) ⌝ }
 {
-    if kind <= 10 {
-        return true;
+    match kind {
+        0..=10 => true,
+        32..=47 => full,
+        _ => false,
     }
-    if kind < 32 {
-        return false;
-    }
-    if kind < KINDS {
-        return full;
-    }
-    false
 }

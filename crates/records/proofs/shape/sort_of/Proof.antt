@@ -1,5 +1,5 @@
--- `records::shape::sort_of` meets its contract: kinds below 5 are formulas, those from there to 10 paths, and all
--- others formulas.
+-- `records::shape::sort_of` meets its contract: kinds 5 to 10 are paths, and all others formulas.
+use Prim.Native.Nat.{ℕ}
 use mathlib.Core.Path.{refl}
 use native.Mathlib.Omega.{arith}
 use Rattle.meaning.specs.Record.{Kind, kinds, sortOf}
@@ -8,17 +8,14 @@ use Rattle.records.proofs.Kind.{stretch, onward}
 use Rattle.records.proofs.shape.sort_of.Statement.{statement}
 use Rattle.records.proofs.shape.sort_of.Tie as tie
 
-returns : tie.Need-returns
-unfolding kinds sortOf sortCode
-returns c = stretch (λ (κ : Kind). sortCode (sortOf κ)) 2 0 5 refl _ (omega arith) (omega arith)
-
-returns-2 : tie.Need-returns-2
-unfolding kinds sortOf sortCode
-returns-2 c = stretch (λ (κ : Kind). sortCode (sortOf κ)) 3 5 6 refl _ (omega arith) (omega arith)
-
-returns-3 : tie.Need-returns-3
-unfolding kinds sortOf sortCode
-returns-3 c = onward (λ (κ : Kind). sortCode (sortOf κ)) 11 37 refl _ (omega arith)
+abbrev told : Kind → ℕ
+told κ = sortCode (sortOf κ)
 
 pub sort-of-spec : {M : Type 1} → statement M
-sort-of-spec = tie.close (tie.spec returns returns-2 returns-3)
+unfolding kinds sortOf sortCode
+sort-of-spec =
+    tie.close
+    (tie.spec
+    (λ c. stretch told 3 5 6 refl _ (omega arith) (omega arith))
+    (λ c. stretch told 2 0 5 refl _ (omega arith) (omega arith))
+    (λ c. onward told 11 37 refl _ (omega arith)))

@@ -1,5 +1,4 @@
--- `records::shape::takes` meets its contract: kinds to 10 are the core, those from 32 to 47 the shorthands, and all
--- others unknown.
+-- `records::shape::takes` meets its contract: kinds to 10 are the core, those from 32 to 47 the shorthands, and all others unknown.
 use mathlib.Core.Path.{refl}
 use mathlib.Core.Bool.{true, false}
 use native.Mathlib.Omega.{arith}
@@ -8,21 +7,12 @@ use Rattle.records.proofs.Kind.{stretch, onward}
 use Rattle.records.proofs.shape.takes.Statement.{statement}
 use Rattle.records.proofs.shape.takes.Tie as tie
 
-returns : tie.Need-returns
-unfolding kinds known
-returns c = stretch (known _) true 0 11 refl _ (omega arith) (omega arith)
-
-returns-2 : tie.Need-returns-2
-unfolding kinds known
-returns-2 c = stretch (known _) false 11 21 refl _ (omega arith) (omega arith)
-
-returns-3 : tie.Need-returns-3
-unfolding kinds known
-returns-3 c = stretch (known _) _ 32 16 refl _ (omega arith) (omega arith)
-
-returns-4 : tie.Need-returns-4
-unfolding kinds known
-returns-4 c = onward (known _) 48 0 refl _ (omega arith)
-
 pub takes-spec : {M : Type 1} → statement M
-takes-spec = tie.close (tie.spec returns returns-2 returns-3 returns-4)
+unfolding kinds known
+takes-spec =
+    tie.close
+    (tie.spec
+    (λ c. stretch (known _) true 0 11 refl _ (omega arith) (omega arith))
+    (λ c. stretch (known _) _ 32 16 refl _ (omega arith) (omega arith))
+    (λ c. stretch (known _) false 11 21 refl _ (omega arith) (omega arith))
+    (λ c. onward (known _) 48 0 refl _ (omega arith)))
