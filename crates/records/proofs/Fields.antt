@@ -1,16 +1,16 @@
--- What a field's number says. A field's use is one of four, and each condition on a field, taken at the use that a
--- number stands for, is a test of the number and one of what stands in the field: this is seen at each of the numbers
--- 0, 1, 2 and the rest.
-use Prim.Native.Nat.{ℕ, zero, suc, _<_, _≤_}
-use mathlib.Core.Path.{_≡_, refl, sym, _∙_}
-use mathlib.Core.Bool.{false, not, _&&_}
+-- What a field's number says. A field's use is one of four, numbered 0 to 3, and a use that is a child's has the number of
+-- the child's sort. So the first condition on a field is told by the number: for a child, that it is late, and then that
+-- its sort has another number.
+use Prim.Native.Nat.{ℕ, zero, suc, _≤_}
+use mathlib.Core.Path.{_≡_, refl}
+use mathlib.Core.Bool.{cond, not}
 use mathlib.Core.List.{List}
 use lib.Dec.{leb, eqb}
-use borrow.Author.Tests.{le-leb, ne-eqb, leb-false}
 use native.Mathlib.Omega.{arith}
-use Rattle.meaning.specs.Record.{Sort, Use, formula, path, unused, atomNumber, child, kindAt, sortOf}
-use Rattle.meaning.specs.Refusal.{stray, late, beyond, misfit, differ}
+use Rattle.meaning.specs.Record.{Sort, Use, formula, path, unused, atomNumber, child, kindAt, sortOf, useA, useB, fieldA, fieldB}
+use Rattle.meaning.specs.Refusal.{firstOf, stray, late, beyond, misfit, differ}
 use Rattle.records.specs.Code.{sortCode, useCode, useOf}
+use Rattle.records.specs.Places.{fieldGrounds}
 
 pub use-again : (u : Use) → useOf (useCode u) ≡ u
 unfolding useOf useCode sortCode
@@ -19,26 +19,22 @@ use-again atomNumber = refl
 use-again (child formula) = refl
 use-again (child path) = refl
 
-pub stray-by : (u v : ℕ) → stray (useOf u) v ≡ (eqb u 0 && not (eqb v 0))
-unfolding useOf stray
-stray-by zero v = refl
-stray-by (suc zero) v = refl
-stray-by (suc (suc zero)) v = refl
-stray-by (suc (suc (suc u))) v = rw (ne-eqb (suc (suc (suc u))) 0 (λ e. omega arith))
+code-small : (held : Use) → useCode held ≤ 3
+unfolding useCode sortCode
+code-small unused = omega arith
+code-small atomNumber = omega arith
+code-small (child formula) = omega arith
+code-small (child path) = omega arith
 
-pub late-by : (u v r : ℕ) → late (useOf u) v r ≡ (leb 2 u && leb r v)
-unfolding useOf late
-late-by zero v r = refl
-late-by (suc zero) v r = refl
-late-by (suc (suc zero)) v r = refl
-late-by (suc (suc (suc u))) v r = rw (le-leb 2 (suc (suc (suc u))) (omega arith))
+pub small : (held : Use) {u : ℕ} → u ≡ useCode held → u ≤ 3
+small held e = rw e (code-small held)
 
-pub beyond-by : (u v A : ℕ) → beyond (useOf u) v A ≡ (eqb u 1 && leb A v)
-unfolding useOf beyond
-beyond-by zero v A = refl
-beyond-by (suc zero) v A = refl
-beyond-by (suc (suc zero)) v A = refl
-beyond-by (suc (suc (suc u))) v A = rw (ne-eqb (suc (suc (suc u))) 1 (λ e. omega arith))
+-- The fields of record r as the code reads them.
+pub record Read (s : List ℕ) (r ua ub a b : ℕ) : Type 0 where
+  pub use-a : ua ≡ useCode (useA (kindAt s r))
+  pub use-b : ub ≡ useCode (useB (kindAt s r))
+  pub at-a : a ≡ fieldA s r
+  pub at-b : b ≡ fieldB s r
 
 -- Sorts differ where their numbers do.
 pub differ-code : (t u : Sort) → differ t u ≡ not (eqb (sortCode u) (sortCode t))
@@ -48,24 +44,22 @@ differ-code formula path = refl
 differ-code path formula = refl
 differ-code path path = refl
 
-pub misfit-by : (s : List ℕ) (u v : ℕ) → u ≤ 3
-    → misfit s (useOf u) v ≡ (leb 2 u && not (eqb (sortCode (sortOf (kindAt s v))) u))
-unfolding useOf misfit sortCode
-misfit-by s zero v h = refl
-misfit-by s (suc zero) v h = refl
-misfit-by s (suc (suc zero)) v h = differ-code formula (sortOf (kindAt s v))
-misfit-by s (suc (suc (suc zero))) v h = differ-code path (sortOf (kindAt s v))
-misfit-by s (suc (suc (suc (suc u)))) v h = absurd (omega arith)
+-- ---- the first condition on a field
+module _ (s : List ℕ) (A r : ℕ) where
+  pub by-unused : (v : ℕ) → firstOf (fieldGrounds s A r (useOf 0) v) ≡ cond (not (eqb v 0)) 3 0
+  unfolding firstOf fieldGrounds useOf stray late beyond misfit
+  by-unused v = refl
 
-code-small : (u : Use) → useCode u ≤ 3
-unfolding useCode sortCode
-code-small unused = omega arith
-code-small atomNumber = omega arith
-code-small (child formula) = omega arith
-code-small (child path) = omega arith
+  pub by-atom : (v : ℕ) → firstOf (fieldGrounds s A r (useOf 1) v) ≡ cond (leb A v) 5 0
+  unfolding firstOf fieldGrounds useOf stray late beyond misfit
+  by-atom v = refl
 
--- What it takes to look at a child: the field's number is at most 3, and a child that is not late is one of n records.
-pub may-look : (n : ℕ) (held : Use) (u v r : ℕ) → r < n → u ≡ useCode held → late (useOf u) v r ≡ false
-    → (u ≤ 3) × (2 ≤ u → v < n)
-may-look n held u v r h e l =
-    (omega (arith, code-small held), λ two. omega (arith, leb-false r v (sym (late-by u v r ∙ rw (le-leb 2 u two)) ∙ l)))
+  pub by-child : (u v : ℕ) → 2 ≤ u → u ≤ 3
+      → firstOf (fieldGrounds s A r (useOf u) v)
+      ≡ cond (leb r v) 4 (cond (not (eqb (sortCode (sortOf (kindAt s v))) u)) 6 0)
+  unfolding firstOf fieldGrounds useOf stray late beyond misfit sortCode
+  by-child zero v h l = absurd (omega arith)
+  by-child (suc zero) v h l = absurd (omega arith)
+  by-child (suc (suc zero)) v h l = rw (differ-code formula (sortOf (kindAt s v)))
+  by-child (suc (suc (suc zero))) v h l = rw (differ-code path (sortOf (kindAt s v)))
+  by-child (suc (suc (suc (suc u)))) v h l = absurd (omega arith)

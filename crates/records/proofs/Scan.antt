@@ -1,7 +1,7 @@
 -- The grounds of records as a scan meets them. Every number is above 0, so a result of 0 says that no ground applies.
 -- Behind clear records comes the last record's sort, and behind that the places: what is found first is the number of
 -- the whole list.
-use Prim.Native.Nat.{ℕ, pred, _-_, _<_}
+use Prim.Native.Nat.{ℕ, pred, _-_}
 use mathlib.Core.Path.{_≡_, refl, sym, _∙_}
 use mathlib.Core.Bool.{Bool}
 use mathlib.Core.List.{List, [], _∷_}

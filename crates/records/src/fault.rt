@@ -1,17 +1,19 @@
-// The refusals of records: each condition, each record's first refusal, the first of all.
+// The refusals of records: those of a field, of a record, the first of all; and in how many places each record is the child, counted
+// in the same pass.
 ghost use mathlib.Core.Path.{_≡_};
 ghost use mathlib.Core.List.{[], _∷_};
-ghost use Prim.Native.Nat.{pred, _<_, _≤_};
-ghost use lib.ListN.{length};
+ghost use Prim.Native.Nat.{pred, _+_, _<_, _≤_};
 ghost use Rattle.meaning.specs.Run.{each};
 ghost use Rattle.meaning.specs.Record.{count, mostRecords};
-ghost use Rattle.meaning.specs.Refusal.{firstOf, ground1, ground7, ground8, stray, late, beyond, misfit, recordGrounds, treeGrounds, formulaGrounds};
-ghost use Rattle.records.specs.Code.{useOf};
-ghost use Rattle.records.specs.Places.{Added, Places};
+ghost use Rattle.meaning.specs.Refusal.{firstOf, ground1, ground7, ground8, recordGrounds, treeGrounds, formulaGrounds};
+ghost use Rattle.records.specs.Places.{Room, Places, FieldTaken, Taken};
 use crate::layout;
 use crate::shape;
 
-// ---- the conditions
+// In how many places each record is the child. There are two in a record, so that no count is over 510.
+type Counts = [u16; layout::MOST_RECORDS];
+
+// ---- the length and the atoms
 // 1: no records, a part of one, or over 255.
 pub fn wrong_length(s: &[u8]) -> bool
     ensures { λ b. ⌜ b ≡ ground1 (now (s .entry)) .applies ⌝ }
@@ -32,52 +34,44 @@ fn too_many(atoms: u64) -> bool
     32 < atoms
 }
 
-// 3: an unused field that isn't zero. Here and below, u says what the field holds, and v is what stands in it.
-fn is_stray(u: u8, v: usize) -> bool
-    ensures { λ b. ⌜ b ≡ stray (useOf u) v ⌝ }
+// ---- one field
+// The first of 3 to 6 that applies to a field of record r: u says what the field holds, and v is what stands in it. If none does, its
+// child is counted.
+fn field_refusal(s: &[u8], atoms: u64, counts: &mut Counts, r: usize, u: u8, v: usize) -> u8
+    requires { ⌜ (r < count (now s)) × (count (now s) ≤ mostRecords) × (u ≤ 3) × Room (now counts) ⌝ }
+    ensures { λ x. ⌜ FieldTaken (now (s .entry)) atoms r u v (now (counts .entry)) (now (counts .exit)) x ⌝ }
 {
+    // 3: an unused field that isn't zero.
     if u == shape::NOTHING {
-        return v != 0;
+        if v != 0 {
+            return 3;
+        }
+        return 0;
     }
-    false
-}
-
-// 4: a child that isn't earlier than record r.
-fn is_late(u: u8, v: usize, r: usize) -> bool
-    ensures { λ b. ⌜ b ≡ late (useOf u) v r ⌝ }
-{
-    if u < shape::FORMULA {
-        return false;
-    }
-    r <= v
-}
-
-// 5: an atom number that is too large.
-fn is_beyond(u: u8, v: usize, atoms: u64) -> bool
-    ensures { λ b. ⌜ b ≡ beyond (useOf u) v atoms ⌝ }
-{
+    // 5: an atom number that is too large.
     if u == shape::ATOM {
-        return atoms <= v as u64;
+        if atoms <= v as u64 {
+            return 5;
+        }
+        return 0;
     }
-    false
-}
-
-// 6: a child of the wrong sort.
-fn is_misfit(s: &[u8], u: u8, v: usize) -> bool
-    requires { ⌜ (u ≤ 3) × (2 ≤ u → v < count (now s)) ⌝ }
-    ensures { λ b. ⌜ b ≡ misfit (now (s .entry)) (useOf u) v ⌝ }
-{
-    if u < shape::FORMULA {
-        return false;
+    // 4: a child that isn't earlier.
+    if r <= v {
+        return 4;
     }
-    shape::sort_of(layout::kind_at(s, v)) != u
+    // 6: a child of the wrong sort.
+    if shape::sort_of(layout::kind_at(s, v)) != u {
+        return 6;
+    }
+    counts[v] += 1;
+    0
 }
 
 // ---- one record
-// The first of 2 to 6 that applies to record r.
-fn record_refusal(s: &[u8], full: bool, atoms: u64, r: usize) -> u8
-    requires { ⌜ r < count (now s) ⌝ }
-    ensures { λ x. ⌜ x ≡ firstOf (recordGrounds full (now (s .entry)) atoms r) ⌝ }
+// The first of 2 to 6 that applies to record r; of the fields' refusals that is the lesser. If none does, its children are counted.
+fn record_refusal(s: &[u8], full: bool, atoms: u64, counts: &mut Counts, r: usize) -> u8
+    requires { ⌜ (r < count (now s)) × (count (now s) ≤ mostRecords) × Places (now s) r (now counts) ⌝ }
+    ensures { λ x. ⌜ Taken (recordGrounds full (now (s .entry)) atoms r) (now (s .entry)) (r + 1) (now (counts .exit)) x ⌝ }
 {
     let kind = layout::kind_at(s, r);
     if !shape::takes(full, kind) {
@@ -90,41 +84,30 @@ fn record_refusal(s: &[u8], full: bool, atoms: u64, r: usize) -> u8
     let ub = shape::use_b(kind);
     let a = layout::field_a(s, r);
     let b = layout::field_b(s, r);
-    if is_stray(ua, a) {
-        return 3;
+    let x = field_refusal(s, atoms, counts, r, ua, a);
+    let y = field_refusal(s, atoms, counts, r, ub, b);
+    if x == 0 {
+        return y;
     }
-    if is_stray(ub, b) {
-        return 3;
+    if y == 0 {
+        return x;
     }
-    if is_late(ua, a, r) {
-        return 4;
+    if x < y {
+        return x;
     }
-    if is_late(ub, b, r) {
-        return 4;
-    }
-    if is_beyond(ua, a, atoms) {
-        return 5;
-    }
-    if is_beyond(ub, b, atoms) {
-        return 5;
-    }
-    if is_misfit(s, ua, a) {
-        return 6;
-    }
-    if is_misfit(s, ub, b) {
-        return 6;
-    }
-    0
+    y
 }
 
 // ---- all records
-fn records_refusal(s: &[u8], full: bool, atoms: u64) -> u8
-    ensures { λ x. ⌜ x ≡ firstOf (each (count (now (s .entry))) (recordGrounds full (now (s .entry)) atoms)) ⌝ }
+// The first of 2 to 6 that applies to a record. If none does, the counts say in how many places each record is the child.
+fn records_refusal(s: &[u8], full: bool, atoms: u64, counts: &mut Counts) -> u8
+    requires { ⌜ (count (now s) ≤ mostRecords) × Places (now s) 0 (now counts) ⌝ }
+    ensures { λ x. ⌜ Taken (each (count (now (s .entry))) (recordGrounds full (now (s .entry)) atoms)) (now (s .entry)) (count (now (s .entry))) (now (counts .exit)) x ⌝ }
 {
     let n = layout::record_count(s);
     let mut r: usize = 0;
     while r < n {
-        let x = record_refusal(s, full, atoms, r);
+        let x = record_refusal(s, full, atoms, counts, r);
         if x != 0 {
             return x;
         }
@@ -133,50 +116,18 @@ fn records_refusal(s: &[u8], full: bool, atoms: u64) -> u8
     0
 }
 
-// ---- 7: each record before the last is the child of one place
-// One field's child is counted; more than one place is as good as two.
-fn add_place(counts: &mut [u8; 255], u: u8, v: usize)
-    requires { ⌜ length (now counts) ≡ mostRecords ⌝ }
-    ensures { λ _. ⌜ Added u v (now (counts .entry)) (now (counts .exit)) ⌝ }
+// 7: a record before the last isn't the child of one place.
+fn places_refusal(s: &[u8], counts: &Counts) -> u8
+    requires { ⌜ (0 < count (now s)) × (count (now s) ≤ mostRecords) × Places (now s) (count (now s)) (now counts) ⌝ }
+    ensures { λ x. ⌜ x ≡ firstOf (each (pred (count (now (s .entry)))) (λ q. ground7 (now (s .entry)) q ∷ [])) ⌝ }
 {
-    if u < shape::FORMULA {
-        return;
-    }
-    if v < layout::MOST_RECORDS {
-        if counts[v] < 2 {
-            counts[v] += 1;
-        }
-    }
-}
-
-// In how many places each record is the child, up to two.
-fn place_counts(s: &[u8]) -> [u8; 255]
-    ensures { λ counts. ⌜ Places (now (s .entry)) (count (now (s .entry))) counts ⌝ }
-{
-    let n = layout::record_count(s);
-    let mut counts = [0u8; 255];
-    let mut q: usize = 0;
-    while q < n {
-        let kind = layout::kind_at(s, q);
-        add_place(&mut counts, shape::use_a(kind), layout::field_a(s, q));
-        add_place(&mut counts, shape::use_b(kind), layout::field_b(s, q));
-        q += 1;
-    }
-    counts
-}
-
-fn places_refusal(s: &[u8]) -> u8
-    requires { ⌜ (0 < count (now s)) × (count (now s) ≤ mostRecords) ⌝ }
-    ensures { λ x. ⌜ x ≡ firstOf (each (pred (count (now (s .entry)))) (λ r. ground7 (now (s .entry)) r ∷ [])) ⌝ }
-{
-    let counts = place_counts(s);
     let last = layout::record_count(s) - 1;
-    let mut r: usize = 0;
-    while r < last {
-        if counts[r] != 1 {
+    let mut q: usize = 0;
+    while q < last {
+        if counts[q] != 1 {
             return 7;
         }
-        r += 1;
+        q += 1;
     }
     0
 }
@@ -186,7 +137,8 @@ pub fn tree_refusal(s: &[u8], full: bool, atoms: u64) -> u8
     requires { ⌜ (0 < count (now s)) × (count (now s) ≤ mostRecords) ⌝ }
     ensures { λ x. ⌜ x ≡ firstOf (treeGrounds full (now (s .entry)) atoms) ⌝ }
 {
-    let x = records_refusal(s, full, atoms);
+    let mut counts = [0u16; layout::MOST_RECORDS];
+    let x = records_refusal(s, full, atoms, &mut counts);
     if x != 0 {
         return x;
     }
@@ -194,7 +146,7 @@ pub fn tree_refusal(s: &[u8], full: bool, atoms: u64) -> u8
     if shape::sort_of(layout::kind_at(s, last)) != shape::FORMULA {
         return 6;
     }
-    places_refusal(s)
+    places_refusal(s, &counts)
 }
 
 // ---- what every service without a trace asks of the formula

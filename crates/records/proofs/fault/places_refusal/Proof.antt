@@ -1,4 +1,4 @@
--- `fault::places_refusal` meets its contract: before record r, each record is the child of one place.
+-- `fault::places_refusal` meets its contract: before record q, each record is the child of one place.
 use Prim.Native.Nat.{_-_, _≤_}
 use mathlib.Core.List.{[], _∷_}
 use Rattle.meaning.specs.Run.{each}
@@ -11,13 +11,10 @@ use Rattle.records.proofs.fault.places_refusal.Statement.{statement}
 use Rattle.records.proofs.fault.places_refusal.Tie as tie
 
 abbrev Inv-loop : tie.InvT-loop
-Inv-loop s counts last r₀ r = (r ≤ last) × Clear (each r (λ i. ground7 s i ∷ []))
+Inv-loop s counts last q₀ q = (q ≤ last) × Clear (each q (λ i. ground7 s i ∷ []))
 
 abbrev μ-loop : tie.MeasureT-loop
-μ-loop s counts last r₀ r = last - r
-
-place-counts-requires : tie.Need-place-counts-requires Inv-loop μ-loop
-place-counts-requires c κs = search needs
+μ-loop s counts last q₀ q = last - q
 
 record-count-requires : tie.Need-record-count-requires Inv-loop μ-loop
 record-count-requires c κs = search needs
@@ -28,25 +25,27 @@ sub-last c = search needs
 loop-holds : tie.Need-loop-holds Inv-loop μ-loop
 loop-holds c = (search needs, scan-none _)
 
-array-read-if1 : tie.Need-array-read-if1 Inv-loop μ-loop
-array-read-if1 c = search needs
+mul-if1 : tie.Need-mul-if1 Inv-loop μ-loop
+mul-if1 c = search needs
+
+element-copy-out-if1 : tie.Need-element-copy-out-if1 Inv-loop μ-loop
+element-copy-out-if1 c = search needs
 
 returns : tie.Need-returns Inv-loop μ-loop
 returns c =
-    let counted = c .before .before .before .before .place-counts .ensures in
-    let found = not-single counted (omega arith) (c .if1 .taken) in
-    scan-found _ _ _ (omega arith) (c .before .before .loop .inv .1) found (λ z. omega arith)
+    let found = not-single (c .before .before .before .before .before .before .pre .2) (omega arith) (c .if1 .taken) in
+    scan-found _ _ _ (omega arith) (c .before .before .before .loop .inv .1) found (λ z. omega arith)
 
-add-r : tie.Need-add-r Inv-loop μ-loop
-add-r c = search needs
+add-q : tie.Need-add-q Inv-loop μ-loop
+add-q c = search needs
 
 loop-less : tie.Need-loop-less Inv-loop μ-loop
 loop-less c = search needs
 
 loop-again : tie.Need-loop-again Inv-loop μ-loop
 loop-again c =
-    let counted = c .before .before .before .before .place-counts .ensures in
-    (omega arith, scan-more _ _ (c .before .before .loop .inv .1) (single counted (omega arith) (c .if1 .left)))
+    let one = single (c .before .before .before .before .before .before .pre .2) (omega arith) (c .if1 .left) in
+    (omega arith, scan-more _ _ (c .before .before .before .loop .inv .1) one)
 
 returns-2 : tie.Need-returns-2 Inv-loop μ-loop
 returns-2 c = scan-done _ _ _ (omega arith) (c .before .loop .inv .1)
@@ -57,13 +56,13 @@ places-refusal-spec =
     (tie.spec
     Inv-loop
     μ-loop
-    place-counts-requires
     record-count-requires
     sub-last
     loop-holds
-    array-read-if1
+    mul-if1
+    element-copy-out-if1
     returns
-    add-r
+    add-q
     loop-less
     loop-again
     returns-2)
