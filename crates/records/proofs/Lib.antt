@@ -1,5 +1,5 @@
 -- What the proofs of several functions cite.
-pub mod Kind
+pub mod Stretches
 pub mod Numbers
 pub mod Held
 pub mod Fields

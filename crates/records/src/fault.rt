@@ -31,7 +31,7 @@ pub fn wrong_length(s: &[u8]) -> bool
 fn too_many(atoms: u64) -> bool
     ensures { λ b. ⌜ b ≡ ground8 atoms .applies ⌝ }
 {
-    32 < atoms
+    layout::MOST_ATOMS < atoms
 }
 
 // ---- one field
@@ -42,29 +42,29 @@ fn field_refusal(s: &[u8], atoms: u64, counts: &mut Counts, r: usize, u: u8, v: 
     ensures { λ x. ⌜ FieldTaken (now (s .entry)) atoms r u v (now (counts .entry)) (now (counts .exit)) x ⌝ }
 {
     // 3: an unused field that isn't zero.
-    if u == shape::NOTHING {
+    if u == shape::UNUSED {
         if v != 0 {
-            return 3;
+            return refusals::NOT_ZERO;
         }
-        return 0;
+        return refusals::ACCEPTED;
     }
     // 5: an atom number that is too large.
-    if u == shape::ATOM {
+    if u == shape::ATOM_NUMBER {
         if atoms <= v as u64 {
-            return 5;
+            return refusals::NO_SUCH_ATOM;
         }
-        return 0;
+        return refusals::ACCEPTED;
     }
     // 4: a child that isn't earlier.
     if r <= v {
-        return 4;
+        return refusals::LATE_CHILD;
     }
     // 6: a child of the wrong sort.
     if shape::sort_of(layout::kind_at(s, v)) != u {
-        return 6;
+        return refusals::WRONG_SORT;
     }
     counts[v] += 1;
-    0
+    refusals::ACCEPTED
 }
 
 // ---- one record
@@ -75,10 +75,10 @@ fn record_refusal(s: &[u8], full: bool, atoms: u64, counts: &mut Counts, r: usiz
 {
     let kind = layout::kind_at(s, r);
     if !shape::takes(full, kind) {
-        return 2;
+        return refusals::UNKNOWN_KIND;
     }
     if layout::zero_at(s, r) != 0 {
-        return 3;
+        return refusals::NOT_ZERO;
     }
     let ua = shape::use_a(kind);
     let ub = shape::use_b(kind);
@@ -86,10 +86,10 @@ fn record_refusal(s: &[u8], full: bool, atoms: u64, counts: &mut Counts, r: usiz
     let b = layout::field_b(s, r);
     let x = field_refusal(s, atoms, counts, r, ua, a);
     let y = field_refusal(s, atoms, counts, r, ub, b);
-    if x == 0 {
+    if x == refusals::ACCEPTED {
         return y;
     }
-    if y == 0 {
+    if y == refusals::ACCEPTED {
         return x;
     }
     if x < y {
@@ -108,12 +108,12 @@ fn records_refusal(s: &[u8], full: bool, atoms: u64, counts: &mut Counts) -> u8
     let mut r: usize = 0;
     while r < n {
         let x = record_refusal(s, full, atoms, counts, r);
-        if x != 0 {
+        if x != refusals::ACCEPTED {
             return x;
         }
         r += 1;
     }
-    0
+    refusals::ACCEPTED
 }
 
 // 7: a record before the last isn't the child of one place.
@@ -125,11 +125,11 @@ fn places_refusal(s: &[u8], counts: &Counts) -> u8
     let mut q: usize = 0;
     while q < last {
         if counts[q] != 1 {
-            return 7;
+            return refusals::NOT_A_TREE;
         }
         q += 1;
     }
-    0
+    refusals::ACCEPTED
 }
 
 // ---- the records as a tree
@@ -139,12 +139,12 @@ pub fn tree_refusal(s: &[u8], full: bool, atoms: u64) -> u8
 {
     let mut counts = [0u16; layout::MOST_RECORDS];
     let x = records_refusal(s, full, atoms, &mut counts);
-    if x != 0 {
+    if x != refusals::ACCEPTED {
         return x;
     }
     let last = layout::record_count(s) - 1;
     if shape::sort_of(layout::kind_at(s, last)) != shape::FORMULA {
-        return 6;
+        return refusals::WRONG_SORT;
     }
     places_refusal(s, &counts)
 }
@@ -155,10 +155,10 @@ pub fn formula_refusal(s: &[u8], full: bool, atoms: u64) -> u8
     ensures { λ x. ⌜ x ≡ firstOf (formulaGrounds full (now (s .entry)) atoms) ⌝ }
 {
     if wrong_length(s) {
-        return 1;
+        return refusals::WRONG_LENGTH;
     }
     if too_many(atoms) {
-        return 8;
+        return refusals::WRONG_SIZE;
     }
     tree_refusal(s, full, atoms)
 }

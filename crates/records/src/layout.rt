@@ -10,6 +10,9 @@ pub const RECORD_SIZE: usize = 6;
 // No formula has more records.
 pub const MOST_RECORDS: usize = 255;
 
+// Nor more atoms.
+pub const MOST_ATOMS: u64 = 32;
+
 pub fn record_count(s: &[u8]) -> usize
     ensures { λ n. ⌜ n ≡ count (now (s .entry)) ⌝ }
 {

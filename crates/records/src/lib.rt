@@ -1,5 +1,6 @@
 // Formula records: reading them from bytes, and checking them.
 pub mod fault;
+pub mod kind;
 pub mod layout;
 mod shape;
 

@@ -2,11 +2,12 @@
 ghost use mathlib.Core.Path.{_≡_};
 ghost use Rattle.meaning.specs.Record.{kindOf, sortOf, useA, useB, known};
 ghost use Rattle.records.specs.Code.{sortCode, useCode};
+use crate::kind;
 
 // What a field holds. The last two number the sorts of records too.
-pub const NOTHING: u8 = 0;
+pub const UNUSED: u8 = 0;
 
-pub const ATOM: u8 = 1;
+pub const ATOM_NUMBER: u8 = 1;
 
 pub const FORMULA: u8 = 2;
 
@@ -17,10 +18,10 @@ pub fn use_a(kind: u8) -> u8
     ensures { λ u. ⌜ u ≡ useCode (useA (kindOf kind)) ⌝ }
 {
     match kind {
-        2 => ATOM,
-        3..=4 | 8..=10 => PATH,
-        7 | 32..=35 | 38..=47 => FORMULA,
-        _ => NOTHING,
+        kind::ATOM => ATOM_NUMBER,
+        kind::DIAMOND..=kind::BOX | kind::CHOICE..=kind::STAR => PATH,
+        kind::TEST | kind::NOT..=kind::IMPLIES | kind::NEXT..=kind::SINCE => FORMULA,
+        _ => UNUSED,
     }
 }
 
@@ -29,9 +30,9 @@ pub fn use_b(kind: u8) -> u8
     ensures { λ u. ⌜ u ≡ useCode (useB (kindOf kind)) ⌝ }
 {
     match kind {
-        3..=4 | 33..=35 | 46..=47 => FORMULA,
-        8..=9 => PATH,
-        _ => NOTHING,
+        kind::DIAMOND..=kind::BOX | kind::AND..=kind::IMPLIES | kind::UNTIL..=kind::SINCE => FORMULA,
+        kind::CHOICE..=kind::SEQUENCE => PATH,
+        _ => UNUSED,
     }
 }
 
@@ -40,7 +41,7 @@ pub fn sort_of(kind: u8) -> u8
     ensures { λ t. ⌜ t ≡ sortCode (sortOf (kindOf kind)) ⌝ }
 {
     match kind {
-        5..=10 => PATH,
+        kind::STEP..=kind::STAR => PATH,
         _ => FORMULA,
     }
 }
@@ -50,8 +51,8 @@ pub fn takes(full: bool, kind: u8) -> bool
     ensures { λ t. ⌜ t ≡ known full (kindOf kind) ⌝ }
 {
     match kind {
-        0..=10 => true,
-        32..=47 => full,
+        kind::FALSE..=kind::STAR => true,
+        kind::NOT..=kind::SINCE => full,
         _ => false,
     }
 }

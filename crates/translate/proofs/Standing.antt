@@ -17,7 +17,7 @@ use Rattle.meaning.proofs.Bounds.{le-or-lt}
 use Rattle.meaning.proofs.First.{Numbered}
 use Rattle.meaning.proofs.Nodes.{path-node}
 use Rattle.records.specs.Code.{wayOf}
-use Rattle.records.proofs.Kind.{stretch, onward}
+use Rattle.records.proofs.Stretches.{stretch, onward}
 use Rattle.records.proofs.Numbers.{either-of, move-kind, test-kind, join-kind, star-kind, path-number}
 use Rattle.records.proofs.Held.{path-first, join-second}
 use Rattle.translate.specs.Asking.{Formed, AskedPath, bodyRefusal}

@@ -5,7 +5,7 @@ use borrow.Author.Needs.{needs}
 use native.Mathlib.Omega.{arith}
 use lib.Seq.{getD-take}
 use Rattle.meaning.specs.Record.{kinds}
-use Rattle.records.proofs.Kind.{by-table, onward}
+use Rattle.records.proofs.Stretches.{by-table, onward}
 use Rattle.expand.specs.Steps.{children}
 use Rattle.expand.proofs.steps.children_of.Statement.{statement}
 use Rattle.expand.proofs.steps.children_of.Tie as tie

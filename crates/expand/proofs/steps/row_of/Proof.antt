@@ -8,7 +8,7 @@ use native.Mathlib.Omega.{arith}
 use Rattle.meaning.specs.Record.{kinds}
 use Rattle.meaning.specs.Shorthand.{expansion}
 use Rattle.meaning.specs.Tree.{modalNumber, moveNumber}
-use Rattle.records.proofs.Kind.{by-table, onward}
+use Rattle.records.proofs.Stretches.{by-table, onward}
 use Rattle.expand.specs.Steps.{formSteps, pathSteps, stepsOf, digits, rowOf}
 use Rattle.expand.proofs.steps.row_of.Statement.{statement}
 use Rattle.expand.proofs.steps.row_of.Tie as tie
