@@ -12,17 +12,16 @@ use rules::LATER;
 use rules::MOST_RULES;
 use rules::RULE_SIZE;
 
-
 // The first of the words' length and the rules' forms.
 pub fn rules_refusal(rules: &[u16], width: usize) -> u8
     requires { ⌜ width ≤ 287 ⌝ }
     ensures { λ x. ⌜ x ≡ firstOf (ground13-length (now (rules .entry)) ∷ each (ruleCount (now (rules .entry))) (λ i. ground13 (now (rules .entry)) width i ∷ [])) ⌝ }
 {
     if rules.len() % RULE_SIZE != 0 {
-        return 13;
+        return refusals::WRONG_RULES;
     }
     if RULE_SIZE * MOST_RULES < rules.len() {
-        return 13;
+        return refusals::WRONG_RULES;
     }
     each_refusal(rules, width)
 }
@@ -35,11 +34,11 @@ fn each_refusal(rules: &[u16], width: usize) -> u8
     let mut i: usize = 0;
     while i < n {
         if is_bad(rules, width, i) {
-            return 13;
+            return refusals::WRONG_RULES;
         }
         i += 1;
     }
-    0
+    refusals::ACCEPTED
 }
 
 // A place over 3, or a bad literal.

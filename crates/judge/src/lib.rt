@@ -40,7 +40,7 @@ pub fn judge(rules: &[u16], width: u64, instants: u64, cells: &[u8]) -> Judged
     ensures instant { λ v. ⌜ v .instant ≡ judgeAnswer (now (rules .entry)) width instants (now (cells .entry)) .instant ⌝ }
 {
     let refusal = first_refusal(rules, width, instants, cells);
-    if refusal != 0 {
+    if refusal != refusals::ACCEPTED {
         return Judged {
             refusal,
             holds: 0,
@@ -55,11 +55,11 @@ pub fn judge(rules: &[u16], width: u64, instants: u64, cells: &[u8]) -> Judged
 fn first_refusal(rules: &[u16], width: u64, instants: u64, cells: &[u8]) -> u8
     ensures { λ x. ⌜ x ≡ firstOf (judgeGrounds (now (rules .entry)) width instants (now (cells .entry))) ⌝ }
 {
-    if trace::wrong_size(287, width, instants, cells) {
-        return 8;
+    if trace::wrong_size(trace::MOST_COLUMNS, width, instants, cells) {
+        return refusals::WRONG_SIZE;
     }
     let x = form::rules_refusal(rules, width as usize);
-    if x != 0 {
+    if x != refusals::ACCEPTED {
         return x;
     }
     trace::cells_refusal(cells)
@@ -87,14 +87,14 @@ fn first_failure(rules: &[u16], width: usize, l: usize, cells: &[u8]) -> Judged
     }
     if i < n {
         Judged {
-            refusal: 0,
+            refusal: refusals::ACCEPTED,
             holds: 0,
             rule: i as u64,
             instant: k as u64,
         }
     } else {
         Judged {
-            refusal: 0,
+            refusal: refusals::ACCEPTED,
             holds: 1,
             rule: 0,
             instant: 0,

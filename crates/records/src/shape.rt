@@ -30,7 +30,8 @@ pub fn use_b(kind: u8) -> u8
     ensures { λ u. ⌜ u ≡ useCode (useB (kindOf kind)) ⌝ }
 {
     match kind {
-        kind::DIAMOND..=kind::BOX | kind::AND..=kind::IMPLIES | kind::UNTIL..=kind::SINCE => FORMULA,
+        kind::DIAMOND..=kind::BOX | kind::AND..=kind::IMPLIES | kind::UNTIL..=kind::SINCE =>
+            FORMULA,
         kind::CHOICE..=kind::SEQUENCE => PATH,
         _ => UNUSED,
     }

@@ -8,13 +8,14 @@ ghost use lib.ListN.{length, getD};
 ghost use Rattle.meaning.specs.Value.{moveSquare, testSquare, choiceSquare, sequenceSquare};
 ghost use Rattle.records.specs.Code.{wayOf};
 ghost use Rattle.squares.specs.Cells.{at, rowAt, Holds, Raised, Rowed, Padded, Part, besideOf, capped, joinOf, nextCell, shiftOf};
+use records::kind;
 
 // ---- moves and tests: a diagonal each
-// How far behind k * 33 the value of a move stands: a step, kind 5, leads from k to k + 1, a back step from k + 1 to k.
+// How far after k * 33 the value of a move stands: a step leads from k to k + 1, a back step from k + 1 to k.
 fn next_cell(kind: u8) -> usize
     ensures { λ d. ⌜ d ≡ nextCell kind ⌝ }
 {
-    if kind == 5 {
+    if kind == kind::STEP {
         return 1;
     }
     32
@@ -49,16 +50,16 @@ pub fn test_square(table: &[u8], start: usize, l: usize) -> [u8; 1024]
 }
 
 // ---- choice and sequence
-// The first path's square becomes the choice's, kind 8, or the sequence's; `first` and `next` are the two paths' kinds.
+// The first path's square becomes the choice's or the sequence's; `first` and `next` are the two paths' kinds.
 pub fn join(kind: u8, first: u8, next: u8, s: &mut [u8; 1024], q: &[u8; 1024], l: usize)
     requires { ⌜ (l ≤ 32) × (length (now s) ≡ 1024) × Part l first (now s) × Part l next (now q) ⌝ }
     ensures { λ _. ⌜ Holds l (now (s .exit)) (joinOf kind l (at (now (s .entry))) (at (now (q .entry)))) ⌝ }
 {
-    if kind == 8 {
+    if kind == kind::CHOICE {
         choose(s, q);
-    } else if first < 7 {
+    } else if first < kind::TEST {
         lead_move(first, s, q, l);
-    } else if next < 7 {
+    } else if next < kind::TEST {
         follow_move(next, s, l);
     } else {
         follow(s, q, l);
@@ -134,7 +135,7 @@ fn put_row(s: &mut [u8; 1024], k: usize, row: &[u8; 32])
     }
 }
 
-// ---- a move behind a path
+// ---- a move after a path
 // Each row moves on by one place, or back.
 fn follow_move(kind: u8, s: &mut [u8; 1024], l: usize)
     requires { ⌜ (l ≤ 32) × (length (now s) ≡ 1024) × ((k j : ℕ) → k < l → j < l → at (now s) k j ≤ 2) ⌝ }
@@ -152,13 +153,13 @@ fn follow_move(kind: u8, s: &mut [u8; 1024], l: usize)
 fn shift_of(kind: u8) -> usize
     ensures { λ d. ⌜ d ≡ shiftOf kind ⌝ }
 {
-    if kind == 5 {
+    if kind == kind::STEP {
         return 0;
     }
     2
 }
 
-// Row k behind a 0, and before one.
+// Row k with a 0 before it and one after.
 fn padded_row(s: &[u8; 1024], k: usize, l: usize) -> [u8; 34]
     requires { ⌜ (k < 32) × (l ≤ 32) ⌝ }
     ensures { λ row. ⌜ Padded l (at (now (s .entry)) k) row ⌝ }
@@ -200,7 +201,7 @@ fn beside(kind: u8, l: usize, k: usize) -> usize
     requires { ⌜ k < 32 ⌝ }
     ensures { λ i. ⌜ i ≡ besideOf kind l k ⌝ }
 {
-    if kind == 5 {
+    if kind == kind::STEP {
         return k + 1;
     }
     if k == 0 {

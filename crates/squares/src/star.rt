@@ -19,7 +19,7 @@ pub fn close(s: &mut [u8; 1024], l: usize)
     }
 }
 
-// The star of a path that leads to the next instant alone: each row needs the row behind it and no other, so the last comes first.
+// The star of a path that leads to the next instant alone: each row needs the row after it and no other, so the last comes first.
 pub fn run_on(s: &mut [u8; 1024], l: usize)
     requires { ⌜ (0 < l) × (l ≤ 32) × (length (now s) ≡ 1024) × Moving ahead l (at (now s)) ⌝ }
     ensures { λ _. ⌜ Holds l (now (s .exit)) (starSquare l (at (now (s .entry)))) ⌝ }

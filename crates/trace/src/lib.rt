@@ -5,8 +5,10 @@ ghost use lib.ListN.{length, getD};
 ghost use Rattle.meaning.specs.Three.{greatest};
 ghost use Rattle.meaning.specs.Refusal.{firstOf, ground8-cells, grounds9, mostColumns};
 
-// No trace has more instants.
+// No trace has more instants, and no filled trace more columns.
 const MOST_INSTANTS: u64 = 32;
+
+pub const MOST_COLUMNS: u64 = 287;
 
 // 8: rows of over `most` cells, no instants or over 32, or another number of cells than the rows have.
 pub fn wrong_size(most: u64, width: u64, instants: u64, cells: &[u8]) -> bool
@@ -30,9 +32,9 @@ pub fn cells_refusal(cells: &[u8]) -> u8
     ensures { λ x. ⌜ x ≡ firstOf (grounds9 (now (cells .entry))) ⌝ }
 {
     if 2 < greatest_cell(cells) {
-        return 9;
+        return refusals::WRONG_CELL;
     }
-    0
+    refusals::ACCEPTED
 }
 
 fn greatest_cell(cells: &[u8]) -> u8

@@ -4,10 +4,15 @@ ghost use mathlib.Core.Path.{_≡_};
 ghost use lib.ListN.{length};
 ghost use Rattle.translate.specs.Asking.{Formed};
 ghost use Rattle.translate.specs.Contexts.{Placed, Handed, AllHanded, firstCont, isModal};
+use records::kind;
 use records::layout;
 
-// Fills in the mode, 3 a diamond or 4 a box, and the continuation of every path record.
-pub fn find_contexts(records: &[u8], modes: &mut [u8; 255], conts: &mut [u8; 255])
+// Fills in the mode, which is its modality's kind, and the continuation of every path record.
+pub fn find_contexts(
+    records: &[u8],
+    modes: &mut [u8; layout::MOST_RECORDS],
+    conts: &mut [u8; layout::MOST_RECORDS],
+)
     requires { ⌜ Formed (now records) × (length (now modes) ≡ 255) × (length (now conts) ≡ 255) ⌝ }
     ensures { λ _. ⌜ AllHanded (now (records .entry)) (now (modes .exit)) (now (conts .exit)) ⌝ }
 {
@@ -32,17 +37,17 @@ pub fn find_contexts(records: &[u8], modes: &mut [u8; 255], conts: &mut [u8; 255
 fn is_modal(kind: u8) -> bool
     ensures { λ b. ⌜ b ≡ isModal kind ⌝ }
 {
-    if kind < 3 {
+    if kind < kind::DIAMOND {
         return false;
     }
-    kind < 5
+    kind < kind::STEP
 }
 
-// The continuation of the first part of a choice, kind 8, or a sequence with the second part b.
+// The continuation of the first part of a choice, or of a sequence with the second part b.
 fn first_cont(kind: u8, b: usize, c: usize) -> usize
     ensures { λ d. ⌜ d ≡ firstCont kind b c ⌝ }
 {
-    if kind == 8 {
+    if kind == kind::CHOICE {
         return c;
     }
     b
@@ -54,8 +59,8 @@ fn hand_down(
     mode: u8,
     c: usize,
     p: usize,
-    modes: &mut [u8; 255],
-    conts: &mut [u8; 255],
+    modes: &mut [u8; layout::MOST_RECORDS],
+    conts: &mut [u8; layout::MOST_RECORDS],
 )
     requires { ⌜ Placed (now records) mode c p × (length (now modes) ≡ 255) × (length (now conts) ≡ 255) ⌝ }
     ensures { λ _. ⌜ Handed (now (records .entry)) p (now (modes .entry)) (now (conts .entry)) (now (modes .exit)) (now (conts .exit)) ⌝ }
@@ -63,11 +68,11 @@ fn hand_down(
     modes[p] = mode;
     conts[p] = (c % 256) as u8;
     let kind = layout::kind_at(records, p);
-    if kind < 8 {
+    if kind < kind::CHOICE {
         return;
     }
     let a = layout::field_a(records, p);
-    if kind == 10 {
+    if kind == kind::STAR {
         hand_down(records, mode, p, a, modes, conts);
         return;
     }

@@ -17,9 +17,9 @@ ghost use Rattle.translate.specs.Asking.{Formed, Ready};
 ghost use Rattle.translate.specs.Contexts.{AllHanded, Moded};
 ghost use Rattle.translate.specs.Rows.{Rowed, Small, Put, rulesIn, ruleOf};
 use records::layout;
-
-// The words of a rule.
-const RULE_SIZE: usize = 6;
+use row::Row;
+use row::Rows;
+use rules::RULE_SIZE;
 
 // The refusal, or 0 and the number of rules.
 #[repr(C)]
@@ -35,22 +35,22 @@ pub fn translate(records: &[u8], atoms: u64, out: &mut [u16]) -> Counted
     ensures words { λ v. ⌜ now (out .exit) ≡ translateAfter (now (records .entry)) atoms (now (out .entry)) ⌝ }
 {
     let refusal = first_refusal(records, atoms);
-    if refusal != 0 {
+    if refusal != refusals::ACCEPTED {
         return Counted { refusal, count: 0 };
     }
-    let mut modes = [0u8; 255];
-    let mut conts = [0u8; 255];
+    let mut modes = [0u8; layout::MOST_RECORDS];
+    let mut conts = [0u8; layout::MOST_RECORDS];
     context::find_contexts(records, &mut modes, &mut conts);
     let n = rule_count(records, &modes);
     if out.len() < RULE_SIZE * n {
         return Counted {
-            refusal: 10,
+            refusal: refusals::NO_ROOM,
             count: 0,
         };
     }
     write_rules(records, atoms as usize, &modes, &conts, out);
     Counted {
-        refusal: 0,
+        refusal: refusals::ACCEPTED,
         count: n as u64,
     }
 }
@@ -60,14 +60,14 @@ fn first_refusal(records: &[u8], atoms: u64) -> u8
     ensures { λ x. ⌜ x ≡ firstOf (starredGrounds (now (records .entry)) atoms) ⌝ }
 {
     let x = records::check(records, atoms);
-    if x != 0 {
+    if x != refusals::ACCEPTED {
         return x;
     }
     stars::stars_refusal(records)
 }
 
 // How many rules the translation has.
-fn rule_count(records: &[u8], modes: &[u8; 255]) -> usize
+fn rule_count(records: &[u8], modes: &[u8; layout::MOST_RECORDS]) -> usize
     requires { ⌜ Formed (now records) × Moded (now records) (now modes) ⌝ }
     ensures { λ n. ⌜ n ≡ ruleSum (now (records .entry)) (count (now (records .entry))) + 1 ⌝ }
 {
@@ -82,7 +82,13 @@ fn rule_count(records: &[u8], modes: &[u8; 255]) -> usize
 }
 
 // Writes the rules of each record in turn, and at last the one that asserts the whole formula.
-fn write_rules(records: &[u8], atoms: usize, modes: &[u8; 255], conts: &[u8; 255], out: &mut [u16])
+fn write_rules(
+    records: &[u8],
+    atoms: usize,
+    modes: &[u8; layout::MOST_RECORDS],
+    conts: &[u8; layout::MOST_RECORDS],
+    out: &mut [u16],
+)
     requires { ⌜ Ready (now records) atoms × AllHanded (now records) (now modes) (now conts) × (ruleSize * length (translation (now records) atoms) ≤ length (now out)) ⌝ }
     ensures { λ _. ⌜ now (out .exit) ≡ written (words (translation (now (records .entry)) atoms)) (now (out .entry)) ⌝ }
 {
@@ -118,10 +124,10 @@ fn cont_label(atoms: usize, c: u8) -> u16
 fn record_rows(
     records: &[u8],
     atoms: usize,
-    modes: &[u8; 255],
-    conts: &[u8; 255],
+    modes: &[u8; layout::MOST_RECORDS],
+    conts: &[u8; layout::MOST_RECORDS],
     r: usize,
-) -> [[u16; 6]; 4]
+) -> Rows
     requires { ⌜ Ready (now records) atoms × AllHanded (now records) (now modes) (now conts) × (r < count (now records)) ⌝ }
     ensures { λ w. ⌜ Rowed w (rulesAt (now (records .entry)) atoms r) ⌝ }
 {
@@ -139,8 +145,8 @@ fn record_rows(
     )
 }
 
-// Writes the first rows, so many, to the output at a place, and gives the place behind them.
-fn put_rows(out: &mut [u16], at: usize, rows: [[u16; 6]; 4], count: usize) -> usize
+// Writes the first rows, so many, to the output at a place, and gives the place after them.
+fn put_rows(out: &mut [u16], at: usize, rows: Rows, count: usize) -> usize
     requires { ⌜ (count ≤ 4) × (count ≤ length rows) × (at + ruleSize * count ≤ length (now out)) ⌝ }
     ensures { λ e. ⌜ Put (now (out .entry)) at (rulesIn rows count) e (now (out .exit)) ⌝ }
 {
@@ -153,8 +159,8 @@ fn put_rows(out: &mut [u16], at: usize, rows: [[u16; 6]; 4], count: usize) -> us
     end
 }
 
-// Writes a row to the output at a place, and gives the place behind it.
-fn put_row(out: &mut [u16], at: usize, row: [u16; 6]) -> usize
+// Writes a row to the output at a place, and gives the place after it.
+fn put_row(out: &mut [u16], at: usize, row: Row) -> usize
     requires { ⌜ at + ruleSize ≤ length (now out) ⌝ }
     ensures { λ e. ⌜ Put (now (out .entry)) at (ruleOf row ∷ []) e (now (out .exit)) ⌝ }
 {

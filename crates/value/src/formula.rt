@@ -9,6 +9,7 @@ ghost use Rattle.meaning.specs.WellFormed.{WellFormed};
 ghost use Rattle.squares.specs.Cells.{at, Holds};
 ghost use Rattle.value.specs.Valuing.{Asked, Valued, Squared, Moves, PathSquare};
 use crate::row;
+use records::kind;
 use records::layout;
 use squares::square;
 use squares::star;
@@ -18,8 +19,8 @@ fn begins_with_test(records: &[u8], kind: u8, a: usize) -> bool
     requires { ⌜ a < count (now records) ⌝ }
     ensures { λ b. ⌜ b ≡ (eqb kind 9 && eqb (kindByte (now (records .entry)) a) 7) ⌝ }
 {
-    if kind == 9 {
-        return layout::kind_at(records, a) == 7;
+    if kind == kind::SEQUENCE {
+        return layout::kind_at(records, a) == kind::TEST;
     }
     false
 }
@@ -38,12 +39,12 @@ pub fn value_formula(
 {
     let kind = layout::kind_at(records, r);
     let start = row::row_start(r, l);
-    if kind < 2 {
+    if kind < kind::ATOM {
         row::put_constant(table, start, l, kind * 2);
         return;
     }
     let a = layout::field_a(records, r);
-    if kind == 2 {
+    if kind == kind::ATOM {
         row::put_atom(table, start, l, cells, atoms, a);
         return;
     }
@@ -66,11 +67,11 @@ fn path_square(
     ensures { λ s. ⌜ Valued (now (records .entry)) atoms l (now (cells .entry)) p (now (table .entry)) (now (table .exit)) × Squared (now (records .entry)) atoms l (now (cells .entry)) p s ⌝ }
 {
     let kind = layout::kind_at(records, p);
-    if kind < 7 {
+    if kind < kind::TEST {
         return square::move_square(kind, l);
     }
     let a = layout::field_a(records, p);
-    if kind == 7 {
+    if kind == kind::TEST {
         value_formula(records, atoms, l, cells, a, table);
         return square::test_square(&table[..], row::row_start(a, l), l);
     }
@@ -82,7 +83,7 @@ fn path_square(
         return t;
     }
     let mut s = path_square(records, atoms, l, cells, a, table);
-    if kind == 10 {
+    if kind == kind::STAR {
         close(records, a, &mut s, l);
         return s;
     }
@@ -99,32 +100,32 @@ fn close(records: &[u8], p: usize, s: &mut [u8; 1024], l: usize)
     requires { ⌜ PathSquare (now records) l p (now s) ⌝ }
     ensures { λ _. ⌜ Holds l (now (s .exit)) (starSquare l (at (now (s .entry)))) ⌝ }
 {
-    if layout::kind_at(records, p) == 10 {
+    if layout::kind_at(records, p) == kind::STAR {
         return;
     }
     let way = one_way(records, p);
-    if way == 5 {
+    if way == kind::STEP {
         star::run_on(s, l);
-    } else if way == 6 {
+    } else if way == kind::BACK {
         star::run_back(s, l);
     } else {
         star::close(s, l);
     }
 }
 
-// The kind of the one move of path p, if tests before it or behind it are all else that p has: 5 or 6.
+// The kind of the one move of path p, a step or a back step, if tests before and after it are all else that p has.
 fn one_way(records: &[u8], p: usize) -> u8
     requires { ⌜ ((A : ℕ) × WellFormed false (now records) A) × (p < count (now records)) ⌝ }
     ensures { λ n. ⌜ (5 ≤ n → Moves (now (records .entry)) n p) ⌝ }
 {
     let mut q = p;
     let mut kind = layout::kind_at(records, q);
-    while kind == 9 {
+    while kind == kind::SEQUENCE {
         let a = layout::field_a(records, q);
         let b = layout::field_b(records, q);
-        if layout::kind_at(records, a) == 7 {
+        if layout::kind_at(records, a) == kind::TEST {
             q = b;
-        } else if layout::kind_at(records, b) == 7 {
+        } else if layout::kind_at(records, b) == kind::TEST {
             q = a;
         } else {
             return 0;

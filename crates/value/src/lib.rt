@@ -29,11 +29,14 @@ pub fn value(records: &[u8], atoms: u64, instants: u64, cells: &[u8], out: &mut 
     ensures table { λ v. ⌜ now (out .exit) ≡ valueAfter (now (records .entry)) atoms instants (now (cells .entry)) (now (out .entry)) ⌝ }
 {
     let refusal = first_refusal(records, atoms, instants, cells, out.len());
-    if refusal != 0 {
+    if refusal != refusals::ACCEPTED {
         return Valued { refusal, value: 0 };
     }
     let value = fill(records, atoms as usize, instants as usize, cells, out);
-    Valued { refusal: 0, value }
+    Valued {
+        refusal: refusals::ACCEPTED,
+        value,
+    }
 }
 
 // Conditions in document 01's order: 1, 8, those of the records, 9, 10.
@@ -41,23 +44,23 @@ fn first_refusal(records: &[u8], atoms: u64, instants: u64, cells: &[u8], room: 
     ensures { λ x. ⌜ x ≡ firstOf (valueGrounds (now (records .entry)) atoms instants (now (cells .entry)) room) ⌝ }
 {
     if fault::wrong_length(records) {
-        return 1;
+        return refusals::WRONG_LENGTH;
     }
-    if trace::wrong_size(32, atoms, instants, cells) {
-        return 8;
+    if trace::wrong_size(layout::MOST_ATOMS, atoms, instants, cells) {
+        return refusals::WRONG_SIZE;
     }
     let x = fault::tree_refusal(records, false, atoms);
-    if x != 0 {
+    if x != refusals::ACCEPTED {
         return x;
     }
     let y = trace::cells_refusal(cells);
-    if y != 0 {
+    if y != refusals::ACCEPTED {
         return y;
     }
     if room < row::row_start(layout::record_count(records), instants as usize) {
-        return 10;
+        return refusals::NO_ROOM;
     }
-    0
+    refusals::ACCEPTED
 }
 
 // The table of an accepted formula, and the whole formula's value at the first instant.

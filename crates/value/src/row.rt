@@ -6,6 +6,7 @@ ghost use Rattle.meaning.specs.Run.{cellOf};
 ghost use Rattle.meaning.specs.Value.{diamondRow, boxRow, modalRow};
 ghost use Rattle.records.specs.Code.{modeOf};
 ghost use Rattle.squares.specs.Cells.{at, rowAt, Put};
+use records::kind;
 
 // Where row r starts.
 pub fn row_start(r: usize, l: usize) -> usize
@@ -40,7 +41,7 @@ pub fn put_atom(table: &mut [u8], start: usize, l: usize, cells: &[u8], atoms: u
     }
 }
 
-// The diamond, kind 3, or the box over a path's square of the formula whose row starts at `from`, which ends at or before `start`.
+// The diamond or the box over a path's square of the formula whose row starts at `from`, which ends at or before `start`.
 pub fn put_modal(kind: u8, s: &[u8; 1024], table: &mut [u8], from: usize, start: usize, l: usize)
     requires { ⌜ (start + l ≤ length (now table)) × (from + l ≤ start) × (l ≤ 32) ⌝ }
     ensures { λ _. ⌜ Put l start (modalRow (modeOf kind) l (at (now (s .entry))) (rowAt (now (table .entry)) from)) (now (table .entry)) (now (table .exit)) ⌝ }
@@ -56,7 +57,7 @@ fn modal_cell(kind: u8, s: &[u8; 1024], table: &[u8], from: usize, l: usize, k: 
     requires { ⌜ (from + l ≤ length (now table)) × (k < l) × (l ≤ 32) ⌝ }
     ensures { λ v. ⌜ v ≡ modalRow (modeOf kind) l (at (now (s .entry))) (rowAt (now (table .entry)) from) k ⌝ }
 {
-    if kind == 3 {
+    if kind == kind::DIAMOND {
         return diamond_cell(s, table, from, l, k);
     }
     box_cell(s, table, from, l, k)
