@@ -6,7 +6,7 @@ use mathlib.Core.Bool.{true}
 use mathlib.Core.List.{List}
 use native.Mathlib.Omega.{arith}
 use Rattle.meaning.specs.Record.{kindAt}
-use Rattle.expand.specs.Steps.{rowOf}
+use Rattle.expand.specs.Steps.{byte, rowOf}
 use Rattle.expand.specs.Asking.{Asked, sizeAt, stepCount, fits}
 use Rattle.expand.proofs.Sized.{stepsSize}
 use Rattle.expand.proofs.Row.{Rest, rest-all, rest-none, Read, rest-read}
@@ -33,13 +33,13 @@ module _ {s : List ℕ} {r rest size : ℕ} (g : Tallied s r rest size) where
     next : Read (kindAt s r) rest (g .steps .left)
     next = rest-read (g .steps) more
 
-    pub tally-fits : fits (kindAt s r) (rest % 16) ≡ true
+    pub tally-fits : fits (kindAt s r) (rest % byte) ≡ true
     tally-fits = next .fit
 
-    pub tally-less : rest / 16 < rest
+    pub tally-less : rest / byte < rest
     tally-less = next .less
 
-    pub tally-more : {x sum : ℕ} → x ≡ min 256 (stepCount s r (rest % 16)) → sum ≡ min 256 (size + x) → Tallied s r (rest / 16) sum
+    pub tally-more : {x sum : ℕ} → x ≡ min 256 (stepCount s r (rest % byte)) → sum ≡ min 256 (size + x) → Tallied s r (rest / byte) sum
     unfolding stepsSize
     tally-more e h = record {
       steps = next .behind;

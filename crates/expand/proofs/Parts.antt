@@ -7,12 +7,12 @@ use mathlib.Core.List.{List}
 use native.Mathlib.Omega.{arith}
 use lib.Dec.{eqb, ltb}
 use borrow.Author.Tests.{lt-ltb, le-ltb}
-use Rattle.meaning.specs.Record.{Sort, Use, unused, atomNumber, child, useA, useB, kindOf, kindAt, fieldA, fieldB, recordBytes, mostRecords, sortOf}
+use Rattle.meaning.specs.Record.{Sort, Use, unused, atomNumber, child, useA, useB, kindAt, fieldA, fieldB, recordBytes, mostRecords, sortOf}
 use Rattle.meaning.specs.Tree.{treeAt}
 use Rattle.meaning.specs.WellFormed.{Fits}
 use Rattle.meaning.proofs.Fails.{and-holds}
 use Rattle.meaning.proofs.Nodes.{tree-of}
-use Rattle.expand.specs.Steps.{stepsOf, fieldFrom, fieldSize, children, ownA, ownB, partOf, partUse, stepFrom, stepSize}
+use Rattle.expand.specs.Steps.{oneChild, noChild, atomStep, partA, byte, stepsOf, fieldFrom, fieldSize, ownKind, ownA, ownB, partOf, partUse, stepFrom, stepSize}
 use Rattle.expand.specs.Asking.{Asked, bytesAt, sizeAt, stepBytes, stepCount, isChild, isAtom, fits}
 use Rattle.expand.proofs.Stepping.{stepsFrom, node-from}
 use Rattle.expand.proofs.Sized.{stepsSize, node-size}
@@ -55,14 +55,14 @@ module _ {s : List ℕ} {r : ℕ} (w : Asked s r) where
     abbrev q : ℕ
     q = partOf d (fieldA s r) (fieldB s r)
 
-    module _ (part : 14 ≤ d) where
+    module _ (part : partA ≤ d) where
       held : (σ : Sort) × (partUse (kindAt s r) d ≡ child σ)
       unfolding fits
-      held = is-child _ (and-holds (ltb d 16) _ .0 (rw (le-ltb d 14 part) at f) .1)
+      held = is-child _ (and-holds (ltb d byte) _ .0 (rw (le-ltb d partA part) at f) .1)
 
       field-fits : Fits s (w .atoms) r (partUse (kindAt s r) d) q
       unfolding partUse partOf
-      field-fits = go (eqb d 14)
+      field-fits = go (eqb d partA)
         where
           go : (first : Bool)
               → Fits s (w .atoms) r (cond first (useA (kindAt s r)) (useB (kindAt s r))) (cond first (fieldA s r) (fieldB s r))
@@ -79,29 +79,29 @@ module _ {s : List ℕ} {r : ℕ} (w : Asked s r) where
 
       pub part-bytes : (under n : ℕ) → stepBytes s r d under n ≡ bytesAt s q n
       unfolding stepFrom fieldFrom
-      part-bytes under n = rw (le-ltb d 14 part, held .1, child-fits .1)
+      part-bytes under n = rw (le-ltb d partA part, held .1, child-fits .1)
 
       pub part-count : stepCount s r d ≡ sizeAt s q
       unfolding stepSize fieldSize
-      part-count = rw (le-ltb d 14 part, held .1, child-fits .1)
+      part-count = rw (le-ltb d partA part, held .1, child-fits .1)
 
     -- ---- an own record
-    module _ (own : d < 14) where
-      pub own-bytes : (under n : ℕ) → stepBytes s r d under n ≡ recordBytes d (ownA d (fieldA s r) under n) (ownB d n)
+    module _ (own : d < partA) where
+      pub own-bytes : (under n : ℕ) → stepBytes s r d under n ≡ recordBytes (ownKind d) (ownA d (fieldA s r) under n) (ownB d n)
       unfolding stepFrom
-      own-bytes under n = rw (lt-ltb d 14 own)
+      own-bytes under n = rw (lt-ltb d partA own)
 
       pub own-count : stepCount s r d ≡ 1
       unfolding stepSize
-      own-count = rw (lt-ltb d 14 own)
+      own-count = rw (lt-ltb d partA own)
 
-      atom-small : cond (eqb d 2) (fieldA s r) 0 < 65_536
+      atom-small : cond (eqb d atomStep) (fieldA s r) 0 < 65_536
       unfolding fits
-      atom-small = go (eqb d 2) refl
+      atom-small = go (eqb d atomStep) refl
         where
-          go : (c : Bool) → eqb d 2 ≡ c → cond c (fieldA s r) 0 < 65_536
+          go : (c : Bool) → eqb d atomStep ≡ c → cond c (fieldA s r) 0 < 65_536
           go true e =
-              let u = is-atom (useA (kindAt s r)) (rw (lt-ltb d 14 own, e) at f) in
+              let u = is-atom (useA (kindAt s r)) (rw (lt-ltb d partA own, e) at f) in
               let a : fieldA s r < w .atoms = rw u at (w .formed .first r (w .index)) in
               omega (arith, w .formed .atoms)
           go false e = omega arith
@@ -109,8 +109,7 @@ module _ {s : List ℕ} {r : ℕ} (w : Asked s r) where
       pub own-small : (under n : ℕ) → under ≤ mostRecords → n ≤ mostRecords
           → (ownA d (fieldA s r) under n < 65_536) × (ownB d n < 65_536)
       unfolding ownA ownB
-      own-small under n h l =
-          let c = children (kindOf d) in (
-            either-below (eqb c 0) _ _ _ atom-small (either-below (eqb c 1) _ _ _ (omega arith) (omega arith)),
-            either-below (ltb c 2) _ _ _ (omega arith) (omega arith),
-          )
+      own-small under n h l = (
+        either-below (ltb d oneChild) _ _ _ (omega arith) (either-below (ltb d noChild) _ _ _ (omega arith) atom-small),
+        either-below (ltb d oneChild) _ _ _ (omega arith) (omega arith),
+      )

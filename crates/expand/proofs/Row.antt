@@ -1,4 +1,4 @@
--- Rows read digit by digit. A row's lowest digit is its first step, the other digits are those of the rest, and only a row with no step
+-- Rows read byte by byte. A row's lowest byte is its first step, the other bytes are those of the rest, and only a row with no step
 -- left is 1. Every step of a kind's row fits the kind.
 use Prim.Native.Nat.{ℕ, _/_, _%_, _<_}
 use mathlib.Core.Path.{_≡_, refl, sym, _∙_}
@@ -12,7 +12,7 @@ use Rattle.meaning.specs.Shorthand.{expansion}
 use Rattle.meaning.specs.Tree.{modalNumber, moveNumber}
 use Rattle.meaning.proofs.Fails.{and-holds}
 use Rattle.records.proofs.Stretches.{onward}
-use Rattle.expand.specs.Steps.{formSteps, pathSteps, stepsOf, digits, rowOf, partUse}
+use Rattle.expand.specs.Steps.{partA, byte, formSteps, pathSteps, stepsOf, digits, rowOf, partUse}
 use Rattle.expand.specs.Asking.{isChild, isAtom, fits}
 
 -- Every step of the list fits the kind.
@@ -25,14 +25,14 @@ unfolding allFit fits isChild isAtom partUse useA useB argumentA argumentB
     kinds stepsOf formSteps pathSteps expansion modalNumber moveNumber
 steps-fit number = onward (λ (K : Kind). allFit K (stepsOf K)) 0 48 refl number (omega arith)
 
--- A step that fits is a digit.
-fits-digit : (K : Kind) (d : ℕ) → fits K d ≡ true → d < 16
+-- A step that fits is a byte.
+fits-byte : (K : Kind) (d : ℕ) → fits K d ≡ true → d < byte
 unfolding fits
-fits-digit K d = go (ltb d 14) refl
+fits-byte K d = go (ltb d partA) refl
   where
-    go : (own : Bool) → ltb d 14 ≡ own → fits K d ≡ true → d < 16
-    go true e h = omega (arith, ltb-true d 14 e)
-    go false e h = ltb-true d 16 (and-holds (ltb d 16) _ .0 (rw e at h) .0)
+    go : (own : Bool) → ltb d partA ≡ own → fits K d ≡ true → d < byte
+    go true e h = omega (arith, ltb-true d partA e)
+    go false e h = ltb-true d byte (and-holds (ltb d byte) _ .0 (rw e at h) .0)
 
 positive : (ds : List ℕ) → 0 < digits ds
 unfolding digits
@@ -60,18 +60,18 @@ rest-none g e = none-left (g .left) (sym e ∙ g .row)
 
 -- A step and the rest behind it.
 pub record Read (K : Kind) (rest : ℕ) (ds : List ℕ) : Type 0 where
-  pub fit : fits K (rest % 16) ≡ true
-  pub less : rest / 16 < rest
-  pub behind : Rest K (rest / 16)
-  pub all : ds ≡ rest % 16 ∷ behind .left
+  pub fit : fits K (rest % byte) ≡ true
+  pub less : rest / byte < rest
+  pub behind : Rest K (rest / byte)
+  pub all : ds ≡ rest % byte ∷ behind .left
 
 read-row : {K : Kind} {rest : ℕ} (ds : List ℕ) → rest ≡ digits ds → allFit K ds ≡ true → (rest ≡ 1 → ⊥) → Read K rest ds
 unfolding digits allFit
 read-row [] e h n = absurd (n e)
 read-row {K} {rest} (d ∷ ds) e h n =
     let (f, g) = and-holds (fits K d) (allFit K ds) .0 h in
-    let low = fits-digit K d f in
-    let digit : d ≡ rest % 16 = omega arith in
+    let low = fits-byte K d f in
+    let digit : d ≡ rest % byte = omega arith in
     record {
       fit = rw (← digit) f;
       less = omega (arith, positive ds);

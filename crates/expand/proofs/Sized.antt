@@ -10,7 +10,7 @@ use lib.ListN.{length, length-append}
 use Rattle.meaning.specs.Record.{Kind, recordSize, Sort, formula, path, Use, unused, atomNumber, child, sortOf, known}
 use Rattle.meaning.specs.Formula.{Form, Path}
 use Rattle.meaning.specs.Tree.{Tree, asForm, asPath, nodeOf, formFrom, pathFrom, formSize, pathSize}
-use Rattle.expand.specs.Steps.{stepsOf, treeFrom, treeSize, fieldFrom, fieldSize, partOf, partUse, stepFrom, stepSize, nextUnder}
+use Rattle.expand.specs.Steps.{partA, stepsOf, treeFrom, treeSize, fieldFrom, fieldSize, partOf, partUse, stepFrom, stepSize, nextUnder}
 use Rattle.expand.proofs.Stepping.{stepsFrom, node-from}
 
 mutual
@@ -52,7 +52,7 @@ module _ (K : Kind) (a b : ℕ) (t : ℕ → Tree) where
   pub step-length : (d under n : ℕ) → length (stepFrom K a b t d under n) ≡ recordSize * stepSize K a b t d
   unfolding stepFrom stepSize
   step-length d under n =
-      by-test (ltb d 14) _ (fieldFrom (partUse K d) (t (partOf d a b)) n) 1 _ refl (field-length (partUse K d) _ n)
+      by-test (ltb d partA) _ (fieldFrom (partUse K d) (t (partOf d a b)) n) 1 _ refl (field-length (partUse K d) _ n)
 
   -- How many records a row of steps writes.
   unfoldable pub stepsSize : List ℕ → ℕ

@@ -5,13 +5,13 @@ use mathlib.Core.Path.{_≡_, refl, sym}
 use mathlib.Core.Bool.{true, false, true≢false}
 use mathlib.Core.List.{List, [], _∷_, _++_, append-assoc}
 use native.Mathlib.Nat.{add-assoc}
-use Rattle.meaning.specs.Record.{Kind, constant, atom, modal, move, test, choice, sequence, star, shorthand, unknown, kinds, kindOf}
+use Rattle.meaning.specs.Record.{Kind, constant, atom, modal, move, test, choice, sequence, star, shorthand, unknown}
 use Rattle.meaning.specs.Record.{negated, both, either, implies, end, beside, along, until, since}
 use Rattle.meaning.specs.Record.{diamond, box, ahead, back, useA, useB, argumentA, argumentB, sortOf, known}
 use Rattle.meaning.specs.Shorthand.{expansion}
 use Rattle.meaning.specs.Tree.{Tree, asForm, asPath, nodeOf, formFrom, pathFrom, formSize, pathSize, modalNumber, moveNumber}
 use Rattle.expand.specs.Steps.{formSteps, pathSteps, stepsOf, treeFrom, treeSize, fieldFrom, fieldSize}
-use Rattle.expand.specs.Steps.{children, ownA, ownB, partOf, partUse, stepFrom, stepSize, nextUnder}
+use Rattle.expand.specs.Steps.{ownA, ownB, partOf, partUse, stepFrom, stepSize, nextUnder}
 
 -- The records of a list of steps.
 module _ (K : Kind) (a b : ℕ) (t : ℕ → Tree) where
@@ -23,7 +23,7 @@ pub node-from : (K : Kind) (a b : ℕ) (t : ℕ → Tree) (n : ℕ) → known tr
     → treeFrom (sortOf K) (nodeOf K a b t) n ≡ stepsFrom K a b t (stepsOf K) n n
 unfolding known sortOf nodeOf asForm asPath expansion treeFrom treeSize formFrom pathFrom formSize pathSize modalNumber moveNumber
     stepsOf formSteps pathSteps stepsFrom stepFrom stepSize nextUnder partOf partUse fieldFrom fieldSize useA useB argumentA argumentB
-    ownA ownB children kindOf kinds
+    ownA ownB
 node-from (constant true) a b t n h = refl
 node-from (constant false) a b t n h = refl
 node-from atom a b t n h = refl

@@ -6,13 +6,13 @@ use mathlib.Core.Bool.{Bool, true, false, cond}
 use mathlib.Core.List.{List, [], _++_, append-assoc, append-nil}
 use native.Mathlib.Omega.{arith}
 use native.Mathlib.Nat.{le-refl}
-use lib.Dec.{eqb}
+use lib.Dec.{ltb}
 use lib.ListN.{length, length-append}
 use lib.Seq.{sets, length-sets}
-use Rattle.meaning.specs.Record.{kindOf, kindAt, fieldA, fieldB, sortOf, recordSize, mostRecords}
+use Rattle.meaning.specs.Record.{kindAt, fieldA, fieldB, sortOf, recordSize, mostRecords}
 use Rattle.meaning.specs.Tree.{treeAt}
 use Rattle.meaning.proofs.Stores.{sets-append}
-use Rattle.expand.specs.Steps.{rowOf, children, nextUnder}
+use Rattle.expand.specs.Steps.{noChild, byte, rowOf, nextUnder}
 use Rattle.expand.specs.Asking.{Asked, bytesAt, sizeAt, stepBytes, stepCount, fits, Room, Wrote}
 use Rattle.expand.proofs.Stepping.{stepsFrom}
 use Rattle.expand.proofs.Sized.{tree-length, step-length, stepsSize, steps-length}
@@ -29,11 +29,11 @@ pub record Going (s : List ℕ) (r from : ℕ) (old : List ℕ) (rest under n : 
 
 under-below : (d under n : ℕ) → under ≤ n → nextUnder d under n ≤ n
 unfolding nextUnder
-under-below d under n h = go (eqb (children (kindOf d)) 0)
+under-below d under n h = go (ltb d noChild)
   where
-    go : (c : Bool) → cond c n under ≤ n
-    go true = le-refl n
-    go false = h
+    go : (c : Bool) → cond c under n ≤ n
+    go true = h
+    go false = le-refl n
 
 module _ {s : List ℕ} {r from : ℕ} {old : List ℕ} (w : Asked s r) (room : Room from (sizeAt s r) old) where
   pub going-none : {rest : ℕ} → rest ≡ rowOf (kindAt s r) → Going s r from old rest from from old
@@ -71,14 +71,14 @@ module _ {s : List ℕ} {r from : ℕ} {old : List ℕ} (w : Asked s r) (room : 
       next : Read (kindAt s r) rest (g .steps .left)
       next = rest-read (g .steps) more
 
-      pub less : rest / 16 < rest
+      pub less : rest / byte < rest
       less = next .less
 
-      sizes : rowCount s r (g .steps .left) ≡ stepCount s r (rest % 16) + rowCount s r (next .behind .left)
+      sizes : rowCount s r (g .steps .left) ≡ stepCount s r (rest % byte) + rowCount s r (next .behind .left)
       unfolding stepsSize
       sizes = ap (rowCount s r) (next .all)
 
-      pub going-step : (fits (kindAt s r) (rest % 16) ≡ true) × (under ≤ mostRecords) × Room n (stepCount s r (rest % 16)) out
+      pub going-step : (fits (kindAt s r) (rest % byte) ≡ true) × (under ≤ mostRecords) × Room n (stepCount s r (rest % byte)) out
       going-step = (
         next .fit,
         omega (arith, g .below, sized, room .few),
@@ -86,21 +86,21 @@ module _ {s : List ℕ} {r from : ℕ} {old : List ℕ} (w : Asked s r) (room : 
       )
 
       bytes : rowBytes s r (g .steps .left) under n
-          ≡ stepBytes s r (rest % 16) under n
-          ++ rowBytes s r (next .behind .left) (nextUnder (rest % 16) under n) (n + stepCount s r (rest % 16))
+          ≡ stepBytes s r (rest % byte) under n
+          ++ rowBytes s r (next .behind .left) (nextUnder (rest % byte) under n) (n + stepCount s r (rest % byte))
       unfolding stepsFrom
       bytes = ap (λ (ds : List ℕ). rowBytes s r ds under n) (next .all)
 
-      pub going-more : {e u : ℕ} {new : List ℕ} → Wrote (stepBytes s r (rest % 16) under n) n (stepCount s r (rest % 16)) out e new
-          → u ≡ nextUnder (rest % 16) under n → Going s r from old (rest / 16) u e new
+      pub going-more : {e u : ℕ} {new : List ℕ} → Wrote (stepBytes s r (rest % byte) under n) n (stepCount s r (rest % byte)) out e new
+          → u ≡ nextUnder (rest % byte) under n → Going s r from old (rest / byte) u e new
       going-more {e} {u} {new} p h =
-          let x = stepBytes s r (rest % 16) under n in
-          let long = step-length (kindAt s r) (fieldA s r) (fieldB s r) (treeAt s) (rest % 16) under n in
+          let x = stepBytes s r (rest % byte) under n in
+          let long = step-length (kindAt s r) (fieldA s r) (fieldB s r) (treeAt s) (rest % byte) under n in
           record {
             steps = next .behind;
             done = g .done ++ x;
             place = simp length-append (omega (arith, g .place, p .next, long));
-            below = omega (arith, h, p .next, under-below (rest % 16) under n (g .below));
+            below = omega (arith, h, p .next, under-below (rest % byte) under n (g .below));
             whole = rw (append-assoc, h, p .next) (rw (← bytes) (g .whole));
             wrote = p .whole ∙ rw (g .wrote, g .place) (sets-append (g .done) x old (recordSize * from));
           }

@@ -16,7 +16,7 @@ use lib.Seq.{sets}
 use Rattle.meaning.specs.Record.{Kind, Use, unused, atomNumber, child, useA, recordSize, mostRecords, count, kindAt, fieldA, fieldB, sortOf}
 use Rattle.meaning.specs.Tree.{treeAt}
 use Rattle.meaning.specs.WellFormed.{WellFormed}
-use Rattle.expand.specs.Steps.{treeFrom, treeSize, partUse, stepFrom, stepSize}
+use Rattle.expand.specs.Steps.{atomStep, partA, byte, treeFrom, treeSize, partUse, stepFrom, stepSize}
 
 pub record Asked (s : List ℕ) (r : ℕ) : Type 0 where
   pub atoms : ℕ
@@ -48,7 +48,7 @@ isAtom (child sort) = false
 
 -- Only an atom's record has a step that writes an atom, and a part is a child.
 unfoldable pub fits : Kind → ℕ → Bool
-fits kind d = cond (ltb d 14) (cond (eqb d 2) (isAtom (useA kind)) true) (ltb d 16 && isChild (partUse kind d))
+fits kind d = cond (ltb d partA) (cond (eqb d atomStep) (isAtom (useA kind)) true) (ltb d byte && isChild (partUse kind d))
 
 -- ---- the buffer
 pub record Room (n size : ℕ) (out : List ℕ) : Type 0 where

@@ -1,54 +1,75 @@
--- A record's tree as a row of steps, each of which writes some records behind those before it. A step d is a number: 14 the tree of field
--- a, 15 the tree of field b, a core kind's number one record of that kind. Such a record takes the last one or two trees for its children,
--- or none and begins a tree; in between at most two trees stand by themselves, and `under` is where the second of two begins.
+-- A record's tree as a row of steps, each of which writes some records behind those before it. A step d is a byte: partA the tree of field
+-- a, the next one the tree of field b; a lower one writes one record, whose kind is the low digit, and whose high digit tells its children:
+-- 0 is two, 1 is one, 2 is none. It takes the last one or two trees for them, or begins a tree; in between at most two trees stand by
+-- themselves, and `under` is where the second of two begins.
 --   stepsOf kind            the steps of a record of the kind; a shorthand's are those of its expansion
---   rowOf kind              these as one number: a hexadecimal digit for each, the first one lowest, and a 1 above the last
+--   rowOf kind              these as one number: a byte for each, the first one lowest, and a 1 above the last
 --   treeFrom sort t n       the records of the tree t, which is of the sort, from number n on
 --   treeSize sort t         how many they are
---   ownA, ownB              the fields of one record of a core kind that gets the number n
---   partOf d a b            the record whose tree the step d, 14 or 15, writes; partUse what that field holds
+--   ownKind, ownA, ownB     the kind and the fields of the one record that a step writes, where that gets the number n
+--   partOf d a b            the record whose tree the step d, from partA on, writes; partUse what that field holds
 --   stepFrom .. d under n   the records that the step d writes, from number n on
 --   stepSize .. d           how many they are
 --   nextUnder d under n     what `under` is behind them
-use Prim.Native.Nat.{ℕ, pred, _+_, _*_}
+use Prim.Native.Nat.{ℕ, pred, _+_, _*_, _%_}
 use mathlib.Core.Bool.{cond}
 use mathlib.Core.List.{List, [], _∷_, _++_}
 use lib.Dec.{eqb, ltb}
-use Rattle.meaning.specs.Record.{Kind, kindOf, Sort, formula, path, Use, unused, atomNumber, child, useA, useB, recordBytes}
+use Rattle.meaning.specs.Record.{Kind, Sort, formula, path, Use, unused, atomNumber, child, useA, useB, recordBytes}
 use Rattle.meaning.specs.Formula.{Form, Path}
 use Rattle.meaning.specs.Shorthand.{expansion}
 use Rattle.meaning.specs.Tree.{Tree, asForm, asPath, formFrom, pathFrom, formSize, pathSize, modalNumber, moveNumber}
+
+-- ---- steps
+abbrev pub oneChild : ℕ
+oneChild = 0x10
+
+abbrev pub noChild : ℕ
+noChild = 0x20
+
+abbrev pub atomStep : ℕ
+atomStep = noChild + 2
+
+abbrev pub partA : ℕ
+partA = 0x3A
 
 -- ---- the steps of a kind
 -- Those of an expansion in which the atoms 0 and 1 stand for the arguments.
 unfoldable mutual
   pub formSteps : Form → List ℕ
-  formSteps (Form.constant v) = cond v 1 0 ∷ []
-  formSteps (Form.atom i) = (14 + i) ∷ []
+  formSteps (Form.constant v) = (noChild + cond v 1 0) ∷ []
+  formSteps (Form.atom i) = (partA + i) ∷ []
   formSteps (Form.modal m p f) = pathSteps p ++ formSteps f ++ (modalNumber m ∷ [])
 
   pub pathSteps : Path → List ℕ
-  pathSteps (Path.move w) = moveNumber w ∷ []
-  pathSteps (Path.test f) = formSteps f ++ (7 ∷ [])
+  pathSteps (Path.move w) = (noChild + moveNumber w) ∷ []
+  pathSteps (Path.test f) = formSteps f ++ ((oneChild + 7) ∷ [])
   pathSteps (Path.choice p q) = pathSteps p ++ pathSteps q ++ (8 ∷ [])
   pathSteps (Path.sequence p q) = pathSteps p ++ pathSteps q ++ (9 ∷ [])
-  pathSteps (Path.star p) = pathSteps p ++ (10 ∷ [])
+  pathSteps (Path.star p) = pathSteps p ++ ((oneChild + 10) ∷ [])
+
+-- A core kind's are the trees of its fields and a record of the kind.
+abbrev partB : ℕ
+partB = partA + 1
 
 unfoldable pub stepsOf : Kind → List ℕ
-stepsOf (Kind.constant v) = cond v 1 0 ∷ []
-stepsOf Kind.atom = 2 ∷ []
-stepsOf (Kind.modal m) = 14 ∷ 15 ∷ modalNumber m ∷ []
-stepsOf (Kind.move w) = moveNumber w ∷ []
-stepsOf Kind.test = 14 ∷ 7 ∷ []
-stepsOf Kind.choice = 14 ∷ 15 ∷ 8 ∷ []
-stepsOf Kind.sequence = 14 ∷ 15 ∷ 9 ∷ []
-stepsOf Kind.star = 14 ∷ 10 ∷ []
+stepsOf (Kind.constant v) = (noChild + cond v 1 0) ∷ []
+stepsOf Kind.atom = atomStep ∷ []
+stepsOf (Kind.modal m) = partA ∷ partB ∷ modalNumber m ∷ []
+stepsOf (Kind.move w) = (noChild + moveNumber w) ∷ []
+stepsOf Kind.test = partA ∷ (oneChild + 7) ∷ []
+stepsOf Kind.choice = partA ∷ partB ∷ 8 ∷ []
+stepsOf Kind.sequence = partA ∷ partB ∷ 9 ∷ []
+stepsOf Kind.star = partA ∷ (oneChild + 10) ∷ []
 stepsOf (Kind.shorthand σ) = formSteps (expansion σ (Form.atom 0) (Form.atom 1))
 stepsOf Kind.unknown = []
 
+abbrev pub byte : ℕ
+byte = 256
+
 unfoldable pub digits : List ℕ → ℕ
 digits [] = 1
-digits (d ∷ ds) = d + 16 * digits ds
+digits (d ∷ ds) = d + byte * digits ds
 
 abbrev pub rowOf : Kind → ℕ
 rowOf kind = digits (stepsOf kind)
@@ -74,41 +95,31 @@ fieldSize atomNumber t = 0
 fieldSize (child sort) t = treeSize sort t
 
 -- ---- one record of a core kind
-unfoldable pub children : Kind → ℕ
-children (Kind.constant v) = 0
-children Kind.atom = 0
-children (Kind.modal m) = 2
-children (Kind.move w) = 0
-children Kind.test = 1
-children Kind.choice = 2
-children Kind.sequence = 2
-children Kind.star = 1
-children (Kind.shorthand σ) = 0
-children Kind.unknown = 0
+abbrev pub ownKind : ℕ → ℕ
+ownKind d = d % 16
 
 -- Its fields, where it gets the number n: its only child, or the second of two, is the record before; the first of two is the one before
 -- `under`; of an atom, a is the number.
 unfoldable pub ownA : ℕ → ℕ → ℕ → ℕ → ℕ
-ownA d a under n =
-    cond (eqb (children (kindOf d)) 0) (cond (eqb d 2) a 0) (cond (eqb (children (kindOf d)) 1) (pred n) (pred under))
+ownA d a under n = cond (ltb d oneChild) (pred under) (cond (ltb d noChild) (pred n) (cond (eqb d atomStep) a 0))
 
 unfoldable pub ownB : ℕ → ℕ → ℕ
-ownB d n = cond (ltb (children (kindOf d)) 2) 0 (pred n)
+ownB d n = cond (ltb d oneChild) (pred n) 0
 
 -- ---- a step of a record of the kind with fields a and b
 unfoldable pub partOf : ℕ → ℕ → ℕ → ℕ
-partOf d a b = cond (eqb d 14) a b
+partOf d a b = cond (eqb d partA) a b
 
 unfoldable pub partUse : Kind → ℕ → Use
-partUse kind d = cond (eqb d 14) (useA kind) (useB kind)
+partUse kind d = cond (eqb d partA) (useA kind) (useB kind)
 
 -- `tree` has the trees of the records before.
 unfoldable pub stepFrom : Kind → ℕ → ℕ → (ℕ → Tree) → ℕ → ℕ → ℕ → List ℕ
 stepFrom kind a b tree d under n =
-    cond (ltb d 14) (recordBytes d (ownA d a under n) (ownB d n)) (fieldFrom (partUse kind d) (tree (partOf d a b)) n)
+    cond (ltb d partA) (recordBytes (ownKind d) (ownA d a under n) (ownB d n)) (fieldFrom (partUse kind d) (tree (partOf d a b)) n)
 
 unfoldable pub stepSize : Kind → ℕ → ℕ → (ℕ → Tree) → ℕ → ℕ
-stepSize kind a b tree d = cond (ltb d 14) 1 (fieldSize (partUse kind d) (tree (partOf d a b)))
+stepSize kind a b tree d = cond (ltb d partA) 1 (fieldSize (partUse kind d) (tree (partOf d a b)))
 
 unfoldable pub nextUnder : ℕ → ℕ → ℕ → ℕ
-nextUnder d under n = cond (eqb (children (kindOf d)) 0) n under
+nextUnder d under n = cond (ltb d noChild) under n

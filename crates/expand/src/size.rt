@@ -18,8 +18,8 @@ pub fn tree_size(records: &[u8], r: usize) -> usize
     let mut rest = steps::row_of(layout::kind_at(records, r));
     let mut size: usize = 0;
     while rest != steps::DONE {
-        size = sum(size, step_size(records, r, (rest % 16) as u8));
-        rest /= 16;
+        size = sum(size, step_size(records, r, (rest % steps::BYTE) as u8));
+        rest /= steps::BYTE;
     }
     size
 }

@@ -3,74 +3,61 @@
 ghost use mathlib.Core.Path.{_≡_};
 ghost use Prim.Native.Nat.{pred, _<_};
 ghost use Rattle.meaning.specs.Record.{count, fieldA, fieldB, kindOf};
-ghost use Rattle.expand.specs.Steps.{rowOf, children, ownA, ownB, partOf, nextUnder};
+ghost use Rattle.expand.specs.Steps.{rowOf, ownKind, ownA, ownB, partOf, nextUnder};
 use records::layout;
 
-// This step writes the tree of field a, the next number that of field b. A lower one writes one record of the core kind with its number.
-pub const PART_A: u8 = 14;
+// ---- a step is a byte
+// One that writes a record has the record's kind for its low digit, and the high digit tells the children: 0 is two, 1 is one, 2 is none.
+const ONE_CHILD: u8 = 0x10;
+
+const NO_CHILD: u8 = 0x20;
+
+// The one that writes an atom.
+const ATOM: u8 = 0x22;
+
+// The one that writes the tree of field a; the next number writes that of field b.
+pub const PART_A: u8 = 0x3A;
+
+// ---- a row is one number: a byte for each step, to be read from the right, and a 1 behind the last
+pub const BYTE: u64 = 256;
 
 // The row with no step left.
-pub const DONE: u32 = 1;
+pub const DONE: u64 = 1;
 
-// A row has a hexadecimal digit for each step, to be read from the right, and a 1 behind the last.
-const ROWS: [u32; 48] = [
-    0x10, // false
-    0x11, // true
-    0x12, // atom
-    0x13FE, // diamond
-    0x14FE, // box
-    0x15, // step
-    0x16, // back step
-    0x17E, // test
-    0x18FE, // choice
-    0x19FE, // sequence
-    0x1AE, // star
-    1, // no kind has a number from here to 31
-    1,
-    1,
-    1,
-    1,
-    1,
-    1,
-    1,
-    1,
-    1,
-    1,
-    1,
-    1,
-    1,
-    1,
-    1,
-    1,
-    1,
-    1,
-    1,
-    1,
-    0x1407E, // not
-    0x13F7E, // and
-    0x13187F7E, // or
-    0x14F7E, // implies
-    0x1405, // final
-    0x1406, // initial
-    0x13E5, // next
-    0x14E5, // weak next
-    0x13E6, // previous
-    0x14E6, // weak previous
-    0x13EA5, // eventually
-    0x14EA5, // always
-    0x13EA6, // once
-    0x14EA6, // so far
-    0x13FA957E, // until
-    0x13FA97E6, // since
-];
-
-pub fn row_of(kind: u8) -> u32
+// The table of all rows. As an array it would be laid on the stack at every call.
+pub fn row_of(kind: u8) -> u64
     ensures { λ v. ⌜ v ≡ rowOf (kindOf kind) ⌝ }
 {
-    if 48 <= kind {
-        return DONE;
+    match kind {
+        0 => 0x01_20, // false
+        1 => 0x01_21, // true
+        2 => 0x01_22, // atom
+        3 => 0x01_03_3B_3A, // diamond
+        4 => 0x01_04_3B_3A, // box
+        5 => 0x01_25, // step
+        6 => 0x01_26, // back step
+        7 => 0x01_17_3A, // test
+        8 => 0x01_08_3B_3A, // choice
+        9 => 0x01_09_3B_3A, // sequence
+        10 => 0x01_1A_3A, // star
+        32 => 0x01_04_20_17_3A, // not
+        33 => 0x01_03_3B_17_3A, // and
+        34 => 0x01_03_21_08_17_3B_17_3A, // or
+        35 => 0x01_04_3B_17_3A, // implies
+        36 => 0x01_04_20_25, // final
+        37 => 0x01_04_20_26, // initial
+        38 => 0x01_03_3A_25, // next
+        39 => 0x01_04_3A_25, // weak next
+        40 => 0x01_03_3A_26, // previous
+        41 => 0x01_04_3A_26, // weak previous
+        42 => 0x01_03_3A_1A_25, // eventually
+        43 => 0x01_04_3A_1A_25, // always
+        44 => 0x01_03_3A_1A_26, // once
+        45 => 0x01_04_3A_1A_26, // so far
+        46 => 0x01_03_3B_1A_09_25_17_3A, // until
+        47 => 0x01_03_3B_1A_09_17_3A_26, // since
+        _ => DONE, // no kind has another number
     }
-    ROWS[kind as usize]
 }
 
 // The record whose tree a step from PART_A on writes, in record r.
@@ -84,18 +71,6 @@ pub fn part_of(records: &[u8], r: usize, step: u8) -> usize
     layout::field_b(records, r)
 }
 
-// How many children a record of a core kind has.
-const CHILDREN: [u8; 11] = [0, 0, 0, 2, 2, 0, 0, 1, 2, 2, 1];
-
-fn children_of(kind: u8) -> u8
-    ensures { λ c. ⌜ c ≡ children (kindOf kind) ⌝ }
-{
-    if 11 <= kind {
-        return 0;
-    }
-    CHILDREN[kind as usize]
-}
-
 // The number before n; there is none before 0.
 fn one_less(n: usize) -> usize
     ensures { λ m. ⌜ m ≡ pred n ⌝ }
@@ -106,40 +81,47 @@ fn one_less(n: usize) -> usize
     n - 1
 }
 
-// ---- one record of a core kind, which gets the number n; where it has two children, the tree of the second begins at `under`
-// Field a: the only child, which is the record before; the first of two, which is the one before the second's tree; an atom's number a.
-pub fn own_a(kind: u8, a: usize, under: usize, n: usize) -> usize
-    ensures { λ v. ⌜ v ≡ ownA kind a under n ⌝ }
+// ---- the record of a core kind that a step writes, and that gets the number n; where it has two children, the tree of the second begins
+// at `under`
+pub fn own_kind(step: u8) -> u8
+    ensures { λ k. ⌜ k ≡ ownKind step ⌝ }
 {
-    let c = children_of(kind);
-    if c == 1 {
-        return one_less(n);
-    }
-    if c != 0 {
+    step % 16
+}
+
+// Field a: the first of two children, which is the one before the second's tree; the only child, which is the record before; an atom's
+// number a.
+pub fn own_a(step: u8, a: usize, under: usize, n: usize) -> usize
+    ensures { λ v. ⌜ v ≡ ownA step a under n ⌝ }
+{
+    if step < ONE_CHILD {
         return one_less(under);
     }
-    if kind == 2 {
+    if step < NO_CHILD {
+        return one_less(n);
+    }
+    if step == ATOM {
         return a;
     }
     0
 }
 
 // Field b: the second of two children, which is the record before.
-pub fn own_b(kind: u8, n: usize) -> usize
-    ensures { λ v. ⌜ v ≡ ownB kind n ⌝ }
+pub fn own_b(step: u8, n: usize) -> usize
+    ensures { λ v. ⌜ v ≡ ownB step n ⌝ }
 {
-    if children_of(kind) < 2 {
-        return 0;
+    if step < ONE_CHILD {
+        return one_less(n);
     }
-    one_less(n)
+    0
 }
 
 // Where the second of two trees begins, after a step that began at number n: one that takes no tree for a child begins one.
 pub fn next_under(step: u8, under: usize, n: usize) -> usize
     ensures { λ v. ⌜ v ≡ nextUnder step under n ⌝ }
 {
-    if children_of(step) == 0 {
-        return n;
+    if step < NO_CHILD {
+        return under;
     }
-    under
+    n
 }

@@ -18,11 +18,11 @@ pub fn write_tree(records: &[u8], r: usize, out: &mut [u8], from: usize) -> usiz
     let mut under = from;
     let mut n = from;
     while rest != steps::DONE {
-        let step = (rest % 16) as u8;
+        let step = (rest % steps::BYTE) as u8;
         let next = write_step(records, r, step, under, out, n);
         under = steps::next_under(step, under, n);
         n = next;
-        rest /= 16;
+        rest /= steps::BYTE;
     }
     n
 }
@@ -38,7 +38,7 @@ fn write_step(records: &[u8], r: usize, step: u8, under: usize, out: &mut [u8], 
     put_record(
         out,
         n,
-        step,
+        steps::own_kind(step),
         steps::own_a(step, layout::field_a(records, r), under, n),
         steps::own_b(step, n),
     );

@@ -1,39 +1,72 @@
--- `steps::row_of` meets its contract: its table has each kind's steps, and kinds behind the table have none.
-use Prim.Native.Nat.{ℕ, zero, suc, _<_}
-use mathlib.Core.Path.{_≡_, refl, _∙_}
-use mathlib.Core.List.{List, [], _∷_, map}
-use lib.ListN.{length, getD}
-use borrow.Author.Needs.{needs}
+-- `steps::row_of` meets its contract: at a kind's number the definition's row computes to the table's, whatever it is, and no other
+-- number is a kind's.
+use Prim.Native.Nat.{ℕ, zero, suc, _+_, _≤_}
+use mathlib.Core.Path.{_≡_, refl}
+use mathlib.Core.Bool.{Bool, true, false}
+use lib.Dec.{ltb}
+use borrow.Author.Tests.{ltb-true, ltb-false}
 use native.Mathlib.Omega.{arith}
-use Rattle.meaning.specs.Record.{kinds}
+use Rattle.meaning.specs.Record.{kinds, kindOf}
 use Rattle.meaning.specs.Shorthand.{expansion}
 use Rattle.meaning.specs.Tree.{modalNumber, moveNumber}
-use Rattle.records.proofs.Stretches.{by-table, onward}
+use Rattle.records.proofs.Stretches.{stretch, onward}
 use Rattle.expand.specs.Steps.{formSteps, pathSteps, stepsOf, digits, rowOf}
 use Rattle.expand.proofs.steps.row_of.Statement.{statement}
 use Rattle.expand.proofs.steps.row_of.Tie as tie
 
--- What is read inside a table does not depend on what would stand behind it.
-inside : (table : List ℕ) (k d e : ℕ) → k < length table → getD table k d ≡ getD table k e
-inside [] k d e h = absurd (omega arith)
-inside (x ∷ table) zero d e h = refl
-inside (x ∷ table) (suc k) d e h = inside table k d e (omega arith)
+-- What the default of a `match` knows: k is none of a stretch of numbers, nor of those before, A. So from the stretch on it is behind it.
+Others : Type 0 → ℕ → ℕ → ℕ → Type 0
+Others A k start zero = A
+Others A k start (suc size) = Others A k start size × (k ≡ start + size → ⊥)
 
-returns : tie.Need-returns
-unfolding kinds stepsOf digits formSteps pathSteps expansion modalNumber moveNumber
-returns c = onward rowOf 48 0 refl _ (omega arith)
+others-behind : (A : Type 0) (k start size : ℕ) → Others A k start size → start ≤ k → start + size ≤ k
+unfolding Others
+others-behind A k start zero none h = omega arith
+others-behind A k start (suc size) (none, other) h = omega (arith, others-behind A k start size none h)
 
-mul-result : tie.Need-mul-result
-mul-result c = search needs
+others-before : (A : Type 0) (k start size : ℕ) → Others A k start size → A
+unfolding Others
+others-before A k start zero none = none
+others-before A k start (suc size) (none, other) = others-before A k start size none
 
-array-read-result : tie.Need-array-read-result
-array-read-result c = search needs
-
-returns-2 : tie.Need-returns-2
-unfolding kinds stepsOf digits formSteps pathSteps expansion modalNumber moveNumber
-returns-2 c =
-    let kind = c .before .args .kind in
-    inside (map rowOf kinds) kind 0 1 (omega arith) ∙ by-table rowOf (map rowOf kinds) refl kind
+no-kind : tie.Need-returns-28
+unfolding Others kinds stepsOf digits formSteps pathSteps expansion modalNumber moveNumber
+no-kind c = go (ltb (c .before .args .kind) 32) refl
+  where
+    go : (low : Bool) → ltb (c .before .args .kind) 32 ≡ low → 1 ≡ rowOf (kindOf (c .before .args .kind))
+    go true e = stretch rowOf 1 11 21 refl _ (others-behind Unit _ 0 11 (others-before _ _ 32 16 (c .match .rest)) (omega arith)) (ltb-true _ _ e)
+    go false e = onward rowOf 48 0 refl _ (others-behind (Others Unit _ 0 11) _ 32 16 (c .match .rest) (ltb-false _ _ e))
 
 pub row-of-spec : {M : Type 1} → statement M
-row-of-spec = tie.close (tie.spec returns mul-result array-read-result returns-2)
+unfolding kinds kindOf stepsOf digits formSteps pathSteps expansion modalNumber moveNumber
+row-of-spec =
+    tie.close
+    (tie.spec
+    (λ c. rw (c .match .keys1))
+    (λ c. rw (c .match .keys2))
+    (λ c. rw (c .match .keys3))
+    (λ c. rw (c .match .keys4))
+    (λ c. rw (c .match .keys5))
+    (λ c. rw (c .match .keys6))
+    (λ c. rw (c .match .keys7))
+    (λ c. rw (c .match .keys8))
+    (λ c. rw (c .match .keys9))
+    (λ c. rw (c .match .keys10))
+    (λ c. rw (c .match .keys11))
+    (λ c. rw (c .match .keys12))
+    (λ c. rw (c .match .keys13))
+    (λ c. rw (c .match .keys14))
+    (λ c. rw (c .match .keys15))
+    (λ c. rw (c .match .keys16))
+    (λ c. rw (c .match .keys17))
+    (λ c. rw (c .match .keys18))
+    (λ c. rw (c .match .keys19))
+    (λ c. rw (c .match .keys20))
+    (λ c. rw (c .match .keys21))
+    (λ c. rw (c .match .keys22))
+    (λ c. rw (c .match .keys23))
+    (λ c. rw (c .match .keys24))
+    (λ c. rw (c .match .keys25))
+    (λ c. rw (c .match .keys26))
+    (λ c. rw (c .match .keys27))
+    no-kind)

@@ -15,6 +15,7 @@ use Rattle.expand.proofs.write.write_tree.Kinds as write-tree-kinds
 use Rattle.expand.proofs.write.+write_step+write_tree.Lts-write_tree as write-tree-lts
 use Rattle.expand.proofs.steps.next_under.Reads as next-under-reads
 use Rattle.expand.proofs.steps.own_a.Reads as own-a-reads
+use Rattle.expand.proofs.steps.own_kind.Reads as own-kind-reads
 use Rattle.expand.proofs.steps.own_b.Reads as own-b-reads
 use Rattle.expand.proofs.steps.part_of.Reads as part-of-reads
 use Rattle.expand.proofs.steps.row_of.Reads as row-of-reads
@@ -52,6 +53,8 @@ write-step-claims t = (
   part-of-reads.Learnt,
   write-tree-below t,
   write-tree.Post,
+  own-kind-reads.Asked,
+  own-kind-reads.Learnt,
   field-a-reads.Asked,
   field-a-reads.Learnt,
   own-a-reads.Asked,
@@ -112,6 +115,9 @@ module _ (t : ℕ) where
       rw (part-bytes w _ f (then .if1 .taken), part-count w _ f (then .if1 .taken), ← call .part-of .ensures)
       (c .before .before .write-tree .ensures)
 
+  step-own-kind-requires : of-step write-step-lts.Need-own-kind-requires
+  step-own-kind-requires c κs = search needs
+
   step-field-a-requires : of-step write-step-lts.Need-field-a-requires
   step-field-a-requires c κs = search needs
 
@@ -124,7 +130,7 @@ module _ (t : ℕ) where
   step-put-record-requires : of-step write-step-lts.Need-put-record-requires
   step-put-record-requires c κs =
       let a = c .before .before in
-      let else = a .before .before in
+      let else = a .before .before .before in
       let s = s-start (else .before) in
       let (w, f, low, room) = s .pre .1 in
       let one = own-count w _ f (else .if1 .left) in
@@ -145,11 +151,11 @@ module _ (t : ℕ) where
       let put = c .before .before in
       let b = put .before in
       let a = b .before .before in
-      let else = a .before .before in
+      let else = a .before .before .before in
       let (w, f, _, _) = s-start (else .before) .pre .1 in
       record {
         next = omega (arith, own-count w _ f (else .if1 .left));
-        whole = rw (own-bytes w _ f (else .if1 .left), ← a .field-a .ensures, ← b .before .own-a .ensures, ← b .own-b .ensures)
+        whole = rw (own-bytes w _ f (else .if1 .left), ← a .before .own-kind .ensures, ← a .field-a .ensures, ← b .before .own-a .ensures, ← b .own-b .ensures)
             (put .put-record .ensures);
       }
 
@@ -217,6 +223,7 @@ pub +write-step+write-tree-spec : {M : Type 1} → statement M
     (step-write-tree-requires t)
     (step-same-length t)
     (step-returns t)
+    (step-own-kind-requires t)
     (step-field-a-requires t)
     (step-own-a-requires t)
     (step-own-b-requires t)
