@@ -5,7 +5,8 @@ use mathlib.Core.Path.{_≡_, sym, _∙_}
 use mathlib.Core.Bool.{true}
 use mathlib.Core.List.{List, [], _∷_}
 use native.Mathlib.Omega.{arith}
-use lib.ListN.{length}
+use lib.ListN.{length, take, drop}
+use lib.Seq.{sets, take-append-seam}
 use borrow.Author.Tests.{lt-ltb, le-ltb, eq-eqb, ne-eqb}
 use Rattle.meaning.specs.Run.{written}
 use Rattle.meaning.specs.Record.{count, recordSize, mostRecords, formula}
@@ -15,6 +16,7 @@ use Rattle.meaning.specs.Service.{expandAnswer, expandAfter}
 use Rattle.meaning.specs.WellFormed.{WellFormed}
 use Rattle.meaning.proofs.Accepted.{clear-well-formed}
 use Rattle.meaning.proofs.First.{clear-skip, found-stop}
+use Rattle.meaning.proofs.Stores.{sets-written}
 use Rattle.expand.specs.Steps.{treeFrom, treeSize}
 use Rattle.expand.specs.Asking.{Asked, bytesAt, sizeAt}
 use Rattle.expand.proofs.Sized.{tree-length}
@@ -86,3 +88,8 @@ module _ {s : List ℕ} {A : ℕ} (w : WellFormed true s A) where
 pub whole-length : (s : List ℕ) → length (postorder (formAt s (pred (count s)))) ≡ recordSize * wholeForm s
 unfolding treeFrom treeSize
 whole-length s = tree-length formula (treeAt s (pred (count s))) 0
+
+-- What was stored from a buffer's start on is what it begins with.
+pub take-front : (xs l : List ℕ) → length xs ≤ length l → take (length xs) (sets l 0 xs) ≡ xs
+unfolding written
+take-front xs l h = rw (sets-written xs l h) (take-append-seam xs (drop (length xs) l))

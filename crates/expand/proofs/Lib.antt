@@ -4,5 +4,4 @@ pub mod Sized
 pub mod Row
 pub mod Parts
 pub mod Writing
-pub mod Counting
 pub mod Answering

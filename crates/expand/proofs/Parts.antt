@@ -7,13 +7,13 @@ use mathlib.Core.List.{List}
 use native.Mathlib.Omega.{arith}
 use lib.Dec.{eqb, ltb}
 use borrow.Author.Tests.{lt-ltb, le-ltb}
-use Rattle.meaning.specs.Record.{Sort, Use, unused, atomNumber, child, useA, useB, kindAt, fieldA, fieldB, recordBytes, mostRecords, sortOf}
+use Rattle.meaning.specs.Record.{Sort, Use, unused, atomNumber, child, useA, useB, kindAt, fieldA, fieldB, recordBytes, sortOf}
 use Rattle.meaning.specs.Tree.{treeAt}
 use Rattle.meaning.specs.WellFormed.{Fits}
 use Rattle.meaning.proofs.Fails.{and-holds}
 use Rattle.meaning.proofs.Nodes.{tree-of}
 use Rattle.expand.specs.Steps.{oneChild, noChild, atomStep, partA, byte, stepsOf, fieldFrom, fieldSize, ownKind, ownA, ownB, partOf, partUse, stepFrom, stepSize}
-use Rattle.expand.specs.Asking.{Asked, bytesAt, sizeAt, stepBytes, stepCount, isChild, isAtom, fits}
+use Rattle.expand.specs.Asking.{Asked, bytesAt, sizeAt, stepBytes, stepCount, isChild, isAtom, fits, many}
 use Rattle.expand.proofs.Stepping.{stepsFrom, node-from}
 use Rattle.expand.proofs.Sized.{stepsSize, node-size}
 
@@ -106,7 +106,7 @@ module _ {s : List ℕ} {r : ℕ} (w : Asked s r) where
               omega (arith, w .formed .atoms)
           go false e = omega arith
 
-      pub own-small : (under n : ℕ) → under ≤ mostRecords → n ≤ mostRecords
+      pub own-small : (under n : ℕ) → under ≤ many → n ≤ many
           → (ownA d (fieldA s r) under n < 65_536) × (ownB d n < 65_536)
       unfolding ownA ownB
       own-small under n h l = (

@@ -59,7 +59,7 @@ module _ (K : Kind) (a b : ℕ) (t : ℕ → Tree) where
   stepsSize [] = 0
   stepsSize (d ∷ ds) = stepSize K a b t d + stepsSize ds
 
-  pub steps-length : (ds : List ℕ) (under n : ℕ) → length (stepsFrom K a b t ds under n) ≡ recordSize * stepsSize ds
+  steps-length : (ds : List ℕ) (under n : ℕ) → length (stepsFrom K a b t ds under n) ≡ recordSize * stepsSize ds
   unfolding stepsFrom stepsSize
   steps-length [] under n = refl
   steps-length (d ∷ ds) under n =

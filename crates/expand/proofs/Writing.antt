@@ -1,6 +1,7 @@
--- Writing a record's steps one after the other. What was written is put at the start's place, and what it lacks of the record's tree
--- is what the steps that are left write: so each step takes its part from what is left to what was written, and at the end nothing is left.
-use Prim.Native.Nat.{ℕ, _+_, _*_, _/_, _%_, _<_, _≤_}
+-- Writing a record's steps one after the other. Numbers of records stop at 256: with what the steps that are left write, the number so far
+-- stops where that of the record's tree does. Until then, what was written is put at the start's place, and what it lacks of the tree is
+-- what the steps that are left write: so each step takes its part from what is left to what was written, and at the end nothing is left.
+use Prim.Native.Nat.{ℕ, _+_, _*_, _/_, _%_, _<_, _≤_, min}
 use mathlib.Core.Path.{_≡_, refl, sym, ap, _∙_}
 use mathlib.Core.Bool.{Bool, true, false, cond}
 use mathlib.Core.List.{List, [], _++_, append-assoc, append-nil}
@@ -8,24 +9,31 @@ use native.Mathlib.Omega.{arith}
 use native.Mathlib.Nat.{le-refl}
 use lib.Dec.{ltb}
 use lib.ListN.{length, length-append}
-use lib.Seq.{sets, length-sets}
-use Rattle.meaning.specs.Record.{kindAt, fieldA, fieldB, sortOf, recordSize, mostRecords}
+use lib.Seq.{sets}
+use Rattle.meaning.specs.Record.{kindAt, fieldA, fieldB, recordSize, mostRecords}
 use Rattle.meaning.specs.Tree.{treeAt}
 use Rattle.meaning.proofs.Stores.{sets-append}
 use Rattle.expand.specs.Steps.{noChild, byte, rowOf, nextUnder}
-use Rattle.expand.specs.Asking.{Asked, bytesAt, sizeAt, stepBytes, stepCount, fits, Room, Wrote}
+use Rattle.expand.specs.Asking.{Asked, bytesAt, sizeAt, stepBytes, stepCount, fits, many, Wrote}
 use Rattle.expand.proofs.Stepping.{stepsFrom}
-use Rattle.expand.proofs.Sized.{tree-length, step-length, stepsSize, steps-length}
+use Rattle.expand.proofs.Sized.{step-length, stepsSize}
 use Rattle.expand.proofs.Row.{Rest, rest-all, rest-none, Read, rest-read}
-use Rattle.expand.proofs.Parts.{rowBytes, rowCount, bytes-stepped}
+use Rattle.expand.proofs.Parts.{rowBytes, rowCount, bytes-stepped, size-stepped}
 
-pub record Going (s : List ℕ) (r from : ℕ) (old : List ℕ) (rest under n : ℕ) (out : List ℕ) : Type 0 where
-  pub steps : Rest (kindAt s r) rest
+-- `done` was written from number `from` on, and the steps that are left write the rest of the tree.
+pub record Written (s : List ℕ) (r from : ℕ) (old left : List ℕ) (under n : ℕ) (out : List ℕ) : Type 0 where
   pub done : List ℕ
   pub place : recordSize * n ≡ recordSize * from + length done
-  pub below : under ≤ n
-  pub whole : done ++ rowBytes s r (steps .left) under n ≡ bytesAt s r from
+  pub whole : done ++ rowBytes s r left under n ≡ bytesAt s r from
   pub wrote : out ≡ sets old (recordSize * from) done
+
+-- The loop's invariant.
+pub record Going (s : List ℕ) (r from : ℕ) (old : List ℕ) (rest under n : ℕ) (out : List ℕ) : Type 0 where
+  pub steps : Rest (kindAt s r) rest
+  pub low : n ≤ many
+  pub below : under ≤ n
+  pub counted : min many (n + rowCount s r (steps .left)) ≡ min many (from + sizeAt s r)
+  pub written : n ≤ mostRecords → Written s r from old (steps .left) under n out
 
 under-below : (d under n : ℕ) → under ≤ n → nextUnder d under n ≤ n
 unfolding nextUnder
@@ -35,55 +43,46 @@ under-below d under n h = go (ltb d noChild)
     go true = h
     go false = le-refl n
 
-module _ {s : List ℕ} {r from : ℕ} {old : List ℕ} (w : Asked s r) (room : Room from (sizeAt s r) old) where
-  pub going-none : {rest : ℕ} → rest ≡ rowOf (kindAt s r) → Going s r from old rest from from old
-  going-none e = record {
+-- A sum that stops on the way stops where the whole sum does.
+stops : (n x y : ℕ) → min many (min many (n + x) + y) ≡ min many (n + (x + y))
+stops n x y = omega arith
+
+module _ {s : List ℕ} {r from : ℕ} {old : List ℕ} where
+  pub going-none : {rest : ℕ} → Asked s r → from ≤ many → rest ≡ rowOf (kindAt s r) → Going s r from old rest from from old
+  going-none w h e = record {
     steps = rest-all _ e;
-    done = [];
-    place = omega arith;
+    low = h;
     below = le-refl from;
-    whole = sym (bytes-stepped w from);
-    wrote = refl;
+    counted = rw (size-stepped w);
+    written = λ _. record { done = []; place = omega arith; whole = sym (bytes-stepped w from); wrote = refl };
   }
 
   module _ {rest under n : ℕ} {out : List ℕ} (g : Going s r from old rest under n out) where
-    sized : n + rowCount s r (g .steps .left) ≡ from + sizeAt s r
-    sized =
-        omega (
-          arith,
-          g .place,
-          simp length-append at (ap length (g .whole)),
-          steps-length (kindAt s r) (fieldA s r) (fieldB s r) (treeAt s) (g .steps .left) under n,
-          tree-length (sortOf (kindAt s r)) (treeAt s r) from,
-        )
-
-    pub kept : length out ≡ length old
-    kept = ap length (g .wrote) ∙ length-sets old (recordSize * from) (g .done)
-
     pub going-done : rest ≡ 1 → Wrote (bytesAt s r from) from (sizeAt s r) old n out
     unfolding stepsFrom stepsSize
     going-done e =
         let none = rest-none (g .steps) e in
-        let full : g .done ≡ bytesAt s r from = sym (append-nil (g .done)) ∙ rw none at (g .whole) in
-        record { next = omega (arith, rw none at sized); whole = g .wrote ∙ rw full }
+        record {
+          next = omega (arith, g .low, rw none at (g .counted));
+          whole = λ few.
+              let v = g .written few in
+              let full : v .done ≡ bytesAt s r from = sym (append-nil (v .done)) ∙ rw none at (v .whole) in
+              v .wrote ∙ rw full;
+        }
 
     module _ (more : rest ≡ 1 → ⊥) where
       next : Read (kindAt s r) rest (g .steps .left)
       next = rest-read (g .steps) more
 
-      pub less : rest / byte < rest
-      less = next .less
+      pub going-less : rest / byte < rest
+      going-less = next .less
+
+      pub going-fits : fits (kindAt s r) (rest % byte) ≡ true
+      going-fits = next .fit
 
       sizes : rowCount s r (g .steps .left) ≡ stepCount s r (rest % byte) + rowCount s r (next .behind .left)
       unfolding stepsSize
       sizes = ap (rowCount s r) (next .all)
-
-      pub going-step : (fits (kindAt s r) (rest % byte) ≡ true) × (under ≤ mostRecords) × Room n (stepCount s r (rest % byte)) out
-      going-step = (
-        next .fit,
-        omega (arith, g .below, sized, room .few),
-        record { few = omega (arith, sized, sizes, room .few); long = omega (arith, sized, sizes, room .long, kept) },
-      )
 
       bytes : rowBytes s r (g .steps .left) under n
           ≡ stepBytes s r (rest % byte) under n
@@ -91,16 +90,25 @@ module _ {s : List ℕ} {r from : ℕ} {old : List ℕ} (w : Asked s r) (room : 
       unfolding stepsFrom
       bytes = ap (λ (ds : List ℕ). rowBytes s r ds under n) (next .all)
 
-      pub going-more : {e u : ℕ} {new : List ℕ} → Wrote (stepBytes s r (rest % byte) under n) n (stepCount s r (rest % byte)) out e new
-          → u ≡ nextUnder (rest % byte) under n → Going s r from old (rest / byte) u e new
-      going-more {e} {u} {new} p h =
-          let x = stepBytes s r (rest % byte) under n in
-          let long = step-length (kindAt s r) (fieldA s r) (fieldB s r) (treeAt s) (rest % byte) under n in
-          record {
-            steps = next .behind;
-            done = g .done ++ x;
-            place = simp length-append (omega (arith, g .place, p .next, long));
-            below = omega (arith, h, p .next, under-below (rest % byte) under n (g .below));
-            whole = rw (append-assoc, h, p .next) (rw (← bytes) (g .whole));
-            wrote = p .whole ∙ rw (g .wrote, g .place) (sets-append (g .done) x old (recordSize * from));
-          }
+      module _ {e u : ℕ} {new : List ℕ} (p : Wrote (stepBytes s r (rest % byte) under n) n (stepCount s r (rest % byte)) out e new)
+          (h : u ≡ nextUnder (rest % byte) under n) where
+        written-more : e ≤ mostRecords → e ≡ n + stepCount s r (rest % byte) → Written s r from old (g .steps .left) under n out
+            → Written s r from old (next .behind .left) u e new
+        written-more few exact v =
+            let x = stepBytes s r (rest % byte) under n in
+            let long = step-length (kindAt s r) (fieldA s r) (fieldB s r) (treeAt s) (rest % byte) under n in
+            record {
+              done = v .done ++ x;
+              place = simp length-append (omega (arith, v .place, exact, long));
+              whole = rw (append-assoc, h, exact) (rw (← bytes) (v .whole));
+              wrote = p .whole few ∙ rw (v .wrote, v .place) (sets-append (v .done) x old (recordSize * from));
+            }
+
+        pub going-more : Going s r from old (rest / byte) u e new
+        going-more = record {
+          steps = next .behind;
+          low = omega (arith, p .next);
+          below = omega (arith, h, p .next, g .low, under-below (rest % byte) under n (g .below));
+          counted = rw (p .next) (stops n _ _ ∙ rw (← sizes) (g .counted));
+          written = λ few. written-more few (omega (arith, p .next)) (g .written (omega (arith, p .next)));
+        }

@@ -1,17 +1,15 @@
--- What is asked of records and of the room, and what was written.
+-- What is asked of records and of the buffer, and what was written. Numbers of records stop at 256, which stands for any number above 255.
 --   Asked s r                    record r of a formula in which shorthands may stand
 --   bytesAt s r n, sizeAt s r    the records of its tree from number n on, and how many they are
 --   stepBytes s r d under n      those of its step d
 --   stepCount s r d              how many these are
 --   fits kind d                  a record of the kind may have the step d
---   Room n size out              so many records fit from number n on
---   Wrote bytes n size old e new    the bytes of so many records were written from number n on, and e is the number behind them
-use Prim.Native.Nat.{ℕ, _+_, _*_, _<_, _≤_}
+--   Wrote bytes n size old e new    e is the number behind so many records from number n on; unless it is too high, their bytes were written
+use Prim.Native.Nat.{ℕ, _+_, _*_, _<_, _≤_, min}
 use mathlib.Core.Path.{_≡_}
 use mathlib.Core.Bool.{Bool, true, false, cond, _&&_}
 use mathlib.Core.List.{List}
 use lib.Dec.{eqb, ltb}
-use lib.ListN.{length}
 use lib.Seq.{sets}
 use Rattle.meaning.specs.Record.{Kind, Use, unused, atomNumber, child, useA, recordSize, mostRecords, count, kindAt, fieldA, fieldB, sortOf}
 use Rattle.meaning.specs.Tree.{treeAt}
@@ -51,10 +49,10 @@ unfoldable pub fits : Kind → ℕ → Bool
 fits kind d = cond (ltb d partA) (cond (eqb d atomStep) (isAtom (useA kind)) true) (ltb d byte && isChild (partUse kind d))
 
 -- ---- the buffer
-pub record Room (n size : ℕ) (out : List ℕ) : Type 0 where
-  pub few : n + size ≤ mostRecords
-  pub long : recordSize * (n + size) ≤ length out
+-- More records than any formula may have.
+abbrev pub many : ℕ
+many = 256
 
 pub record Wrote (bytes : List ℕ) (n size : ℕ) (old : List ℕ) (e : ℕ) (new : List ℕ) : Type 0 where
-  pub next : e ≡ n + size
-  pub whole : new ≡ sets old (recordSize * n) bytes
+  pub next : e ≡ min many (n + size)
+  pub whole : e ≤ mostRecords → new ≡ sets old (recordSize * n) bytes

@@ -1,5 +1,4 @@
 // Writing a formula's shorthands out.
-mod size;
 mod steps;
 mod write;
 
@@ -27,20 +26,23 @@ pub fn expand(records: &[u8], atoms: u64, out: &mut [u8]) -> Counted
     }
     let given = layout::record_count(records);
     let last = given - 1;
-    let n = size::tree_size(records, last);
+    // How many records there are is known behind the last one, and a refusal leaves the output as it was.
+    let mut buffer = [0u8; write::ROOM];
+    let n = write::write_tree(records, last, &mut buffer, 0);
     if layout::MOST_RECORDS < n {
         return Counted {
             refusal: 14,
             count: 0,
         };
     }
-    if out.len() < layout::RECORD_SIZE * n {
+    let size = layout::RECORD_SIZE * n;
+    if out.len() < size {
         return Counted {
             refusal: 10,
             count: 0,
         };
     }
-    write::write_tree(records, last, out, 0);
+    write::copy(&buffer, size, out);
     Counted {
         refusal: 0,
         count: n as u64,

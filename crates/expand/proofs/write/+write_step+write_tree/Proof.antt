@@ -6,7 +6,7 @@ use borrow.Author.Needs.{needs}
 use borrow.Fn.Kinds.{In, Out}
 use borrow.Fn.PlainCycle.{Measures, is, falls, and}
 use Rattle.expand.proofs.Parts.{part-asked, part-bytes, part-count, own-bytes, own-count, own-small}
-use Rattle.expand.proofs.Writing.{Going, going-none, going-step, going-more, going-done, kept, less}
+use Rattle.expand.proofs.Writing.{Going, going-none, going-less, going-fits, going-more, going-done}
 use Rattle.expand.proofs.write.write_step.Reads as write-step
 use Rattle.expand.proofs.write.write_step.Kinds as write-step-kinds
 use Rattle.expand.proofs.write.+write_step+write_tree.Lts-write_step as write-step-lts
@@ -78,10 +78,10 @@ write-tree-claims t = (
 )
 
 abbrev Inv-loop : write-tree-lts.InvT-loop
-Inv-loop records r out₀ from rest₀ under₀ n₀ out rest under n = Going records r from out₀ rest under n out
+Inv-loop records r buffer₀ from rest₀ under₀ n₀ buffer rest under n = Going records r from buffer₀ rest under n buffer
 
 abbrev μ-loop : write-tree-lts.MeasureT-loop
-μ-loop records r out₀ from rest₀ under₀ n₀ out rest under n = rest
+μ-loop records r buffer₀ from rest₀ under₀ n₀ buffer rest under n = rest
 
 module _ (t : ℕ) where
   -- ---- write_step
@@ -89,8 +89,8 @@ module _ (t : ℕ) where
       → Out 2 write-step-kinds.ps write-step-kinds.r → Type 0) → Type 0
   of-step X = X (write-step-claims t) (write-step-at t) write-step.Post
 
-  abbrev s-start : of-step write-step-lts.After-slice-known → of-step write-step-lts.Start
-  s-start c = c .before .before
+  abbrev s-start : of-step write-step-lts.After-shared-slice-known → of-step write-step-lts.Start
+  s-start c = c .before
 
   step-part-of-requires : of-step write-step-lts.Need-part-of-requires
   step-part-of-requires c κs = search needs
@@ -99,21 +99,26 @@ module _ (t : ℕ) where
   step-write-tree-requires c κs =
       let then = c .before .before in
       let s = s-start (then .before) in
-      let (w, f, _, room) = s .pre .1 in
+      let (w, f, _, few) = s .pre .1 in
       let (l, asked) = part-asked w _ f (then .if1 .taken) in
       let e = c .before .part-of .ensures in
-      (omega (arith, s .pre .0), rw e (asked, rw (part-count w _ f (then .if1 .taken)) at room))
-
-  step-same-length : of-step write-step-lts.Need-same-length
-  step-same-length c = search needs
+      (omega (arith, s .pre .0), rw e (asked, few))
 
   step-returns : of-step write-step-lts.Need-returns
   step-returns c =
-      let call = c .before .before .before .before in
+      let call = c .before .before in
       let then = call .before in
       let (w, f, _, _) = s-start (then .before) .pre .1 in
       rw (part-bytes w _ f (then .if1 .taken), part-count w _ f (then .if1 .taken), ← call .part-of .ensures)
-      (c .before .before .write-tree .ensures)
+      (c .write-tree .ensures)
+
+  step-returns-2 : of-step write-step-lts.Need-returns-2
+  step-returns-2 c =
+      let (w, f, _, few) = s-start (c .before .before) .pre .1 in
+      record {
+        next = omega (arith, own-count w _ f (c .before .if1 .left), c .if2 .taken);
+        whole = λ h. absurd (omega arith);
+      }
 
   step-own-kind-requires : of-step write-step-lts.Need-own-kind-requires
   step-own-kind-requires c κs = search needs
@@ -130,12 +135,11 @@ module _ (t : ℕ) where
   step-put-record-requires : of-step write-step-lts.Need-put-record-requires
   step-put-record-requires c κs =
       let a = c .before .before in
-      let else = a .before .before .before in
-      let s = s-start (else .before) in
-      let (w, f, low, room) = s .pre .1 in
-      let one = own-count w _ f (else .if1 .left) in
-      let (small-a, small-b) = own-small w _ f (else .if1 .left) (s .args .under) (s .args .n) low (omega (arith, room .few)) in (
-        omega (arith, room .long, one),
+      let room = a .before .before .before in
+      let s = s-start (room .before .before) in
+      let (w, f, low, few) = s .pre .1 in
+      let (small-a, small-b) = own-small w _ f (room .before .if1 .left) (s .args .under) (s .args .n) low few in (
+        room .if2 .left,
         rw (c .before .own-a .ensures, a .field-a .ensures) small-a,
         rw (c .own-b .ensures) small-b,
       )
@@ -143,20 +147,17 @@ module _ (t : ℕ) where
   step-add-result : of-step write-step-lts.Need-add-result
   step-add-result c = search needs
 
-  step-same-length-2 : of-step write-step-lts.Need-same-length-2
-  step-same-length-2 c = search needs
-
-  step-returns-2 : of-step write-step-lts.Need-returns-2
-  step-returns-2 c =
-      let put = c .before .before in
-      let b = put .before in
+  step-returns-3 : of-step write-step-lts.Need-returns-3
+  step-returns-3 c =
+      let b = c .before in
       let a = b .before .before in
-      let else = a .before .before .before in
-      let (w, f, _, _) = s-start (else .before) .pre .1 in
+      let room = a .before .before .before in
+      let (w, f, _, _) = s-start (room .before .before) .pre .1 in
+      let own = room .before .if1 .left in
       record {
-        next = omega (arith, own-count w _ f (else .if1 .left));
-        whole = rw (own-bytes w _ f (else .if1 .left), ← a .before .own-kind .ensures, ← a .field-a .ensures, ← b .before .own-a .ensures, ← b .own-b .ensures)
-            (put .put-record .ensures);
+        next = omega (arith, own-count w _ f own, room .if2 .left);
+        whole = λ h.
+            rw (own-bytes w _ f own, ← a .before .own-kind .ensures, ← a .field-a .ensures, ← b .before .own-a .ensures, ← b .own-b .ensures) (c .put-record .ensures);
       }
 
   -- ---- write_tree
@@ -165,7 +166,7 @@ module _ (t : ℕ) where
   of-tree X = X (write-tree-claims t) (write-tree-at t) write-tree.Post Inv-loop μ-loop
 
   abbrev start : of-tree write-tree-lts.After-row-of → of-tree write-tree-lts.Start
-  start c = c .before .before .before .before
+  start c = c .before .before .before
 
   tree-kind-at-requires : of-tree write-tree-lts.Need-kind-at-requires
   tree-kind-at-requires c κs = search needs
@@ -175,8 +176,8 @@ module _ (t : ℕ) where
 
   tree-loop-holds : of-tree write-tree-lts.Need-loop-holds
   tree-loop-holds c =
-      let (w, room) = start c .pre .1 in
-      going-none w room (rw (c .before .kind-at .ensures) at (c .row-of .ensures))
+      let (w, few) = start c .pre .1 in
+      going-none w few (rw (c .before .kind-at .ensures) at (c .row-of .ensures))
 
   tree-cast-step : of-tree write-tree-lts.Need-cast-step
   tree-cast-step c = search needs
@@ -185,35 +186,25 @@ module _ (t : ℕ) where
   tree-write-step-requires c κs =
       let at-loop = c .before .before in
       let s = start (at-loop .before) in
-      let (w, room) = s .pre .1 in
-      let (f, low, more) = going-step w room (at-loop .loop .inv) (c .before .loop-test .taken) in
-      (omega (arith, s .pre .0), (w, f, low, more))
+      let g = at-loop .loop .inv in
+      (omega (arith, s .pre .0), (s .pre .1 .0, going-fits g (c .before .loop-test .taken), omega (arith, g .below, g .low), g .low))
 
   tree-next-under-requires : of-tree write-tree-lts.Need-next-under-requires
   tree-next-under-requires c κs = search needs
 
   tree-loop-less : of-tree write-tree-lts.Need-loop-less
   tree-loop-less c =
-      let in-loop = c .before .before .before .before .before in
-      let (w, room) = start (in-loop .before .before) .pre .1 in
-      less w room (in-loop .before .loop .inv) (in-loop .loop-test .taken)
+      let in-loop = c .before .before .before in
+      going-less (in-loop .before .loop .inv) (in-loop .loop-test .taken)
 
   tree-loop-again : of-tree write-tree-lts.Need-loop-again
   tree-loop-again c =
-      let call = c .before .before .before in
+      let call = c .before in
       let in-loop = call .before .before in
-      let (w, room) = start (in-loop .before .before) .pre .1 in
-      going-more w room (in-loop .before .loop .inv) (in-loop .loop-test .taken) (call .write-step .ensures) (c .next-under .ensures)
-
-  tree-same-length : of-tree write-tree-lts.Need-same-length
-  tree-same-length c =
-      let (w, room) = start (c .before .before) .pre .1 in
-      kept w room (c .before .loop .inv)
+      going-more (in-loop .before .loop .inv) (in-loop .loop-test .taken) (call .write-step .ensures) (c .next-under .ensures)
 
   tree-returns : of-tree write-tree-lts.Need-returns
-  tree-returns c =
-      let (w, room) = start (c .before .before) .pre .1 in
-      going-done w room (c .before .loop .inv) (c .loop-test .left)
+  tree-returns c = going-done (c .before .loop .inv) (c .loop-test .left)
 
 pub +write-step+write-tree-spec : {M : Type 1} → statement M
 +write-step+write-tree-spec = close μ-write-step μ-write-tree (λ t. write-step-lts.spec (write-step-claims t)
@@ -221,16 +212,15 @@ pub +write-step+write-tree-spec : {M : Type 1} → statement M
     write-step.Post
     (step-part-of-requires t)
     (step-write-tree-requires t)
-    (step-same-length t)
     (step-returns t)
+    (step-returns-2 t)
     (step-own-kind-requires t)
     (step-field-a-requires t)
     (step-own-a-requires t)
     (step-own-b-requires t)
     (step-put-record-requires t)
     (step-add-result t)
-    (step-same-length-2 t)
-    (step-returns-2 t))
+    (step-returns-3 t))
     λ t. write-tree-lts.spec (write-tree-claims t)
     (write-tree-at t)
     write-tree.Post
@@ -244,5 +234,4 @@ pub +write-step+write-tree-spec : {M : Type 1} → statement M
     (tree-next-under-requires t)
     (tree-loop-less t)
     (tree-loop-again t)
-    (tree-same-length t)
     (tree-returns t)
