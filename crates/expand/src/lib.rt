@@ -21,30 +21,30 @@ pub fn expand(records: &[u8], atoms: u64, out: &mut [u8]) -> Counted
     ensures bytes { λ v. ⌜ now (out .exit) ≡ expandAfter (now (records .entry)) atoms (now (out .entry)) ⌝ }
 {
     let refusal = fault::formula_refusal(records, true, atoms);
-    if refusal != 0 {
+    if refusal != refusals::ACCEPTED {
         return Counted { refusal, count: 0 };
     }
     let given = layout::record_count(records);
     let last = given - 1;
-    // How many records there are is known behind the last one, and a refusal leaves the output as it was.
+    // How many records there are is known only after the last one, and a refusal leaves the output as it was.
     let mut buffer = [0u8; write::ROOM];
     let n = write::write_tree(records, last, &mut buffer, 0);
     if layout::MOST_RECORDS < n {
         return Counted {
-            refusal: 14,
+            refusal: refusals::TOO_LONG,
             count: 0,
         };
     }
     let size = layout::RECORD_SIZE * n;
     if out.len() < size {
         return Counted {
-            refusal: 10,
+            refusal: refusals::NO_ROOM,
             count: 0,
         };
     }
     write::copy(&buffer, size, out);
     Counted {
-        refusal: 0,
+        refusal: refusals::ACCEPTED,
         count: n as u64,
     }
 }

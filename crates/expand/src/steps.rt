@@ -4,6 +4,7 @@ ghost use mathlib.Core.Path.{_≡_};
 ghost use Prim.Native.Nat.{pred, _<_};
 ghost use Rattle.meaning.specs.Record.{count, fieldA, fieldB, kindOf};
 ghost use Rattle.expand.specs.Steps.{rowOf, ownKind, ownA, ownB, partOf, nextUnder};
+use records::kind;
 use records::layout;
 
 // ---- a step is a byte
@@ -18,7 +19,7 @@ const ATOM: u8 = 0x22;
 // The one that writes the tree of field a; the next number writes that of field b.
 pub const PART_A: u8 = 0x3A;
 
-// ---- a row is one number: a byte for each step, to be read from the right, and a 1 behind the last
+// ---- a row is one number: a byte for each step, to be read from the right, and a 1 after the last
 pub const BYTE: u64 = 256;
 
 // The row with no step left.
@@ -29,33 +30,33 @@ pub fn row_of(kind: u8) -> u64
     ensures { λ v. ⌜ v ≡ rowOf (kindOf kind) ⌝ }
 {
     match kind {
-        0 => 0x01_20, // false
-        1 => 0x01_21, // true
-        2 => 0x01_22, // atom
-        3 => 0x01_03_3B_3A, // diamond
-        4 => 0x01_04_3B_3A, // box
-        5 => 0x01_25, // step
-        6 => 0x01_26, // back step
-        7 => 0x01_17_3A, // test
-        8 => 0x01_08_3B_3A, // choice
-        9 => 0x01_09_3B_3A, // sequence
-        10 => 0x01_1A_3A, // star
-        32 => 0x01_04_20_17_3A, // not
-        33 => 0x01_03_3B_17_3A, // and
-        34 => 0x01_03_21_08_17_3B_17_3A, // or
-        35 => 0x01_04_3B_17_3A, // implies
-        36 => 0x01_04_20_25, // final
-        37 => 0x01_04_20_26, // initial
-        38 => 0x01_03_3A_25, // next
-        39 => 0x01_04_3A_25, // weak next
-        40 => 0x01_03_3A_26, // previous
-        41 => 0x01_04_3A_26, // weak previous
-        42 => 0x01_03_3A_1A_25, // eventually
-        43 => 0x01_04_3A_1A_25, // always
-        44 => 0x01_03_3A_1A_26, // once
-        45 => 0x01_04_3A_1A_26, // so far
-        46 => 0x01_03_3B_1A_09_25_17_3A, // until
-        47 => 0x01_03_3B_1A_09_17_3A_26, // since
+        kind::FALSE => 0x01_20,
+        kind::TRUE => 0x01_21,
+        kind::ATOM => 0x01_22,
+        kind::DIAMOND => 0x01_03_3B_3A,
+        kind::BOX => 0x01_04_3B_3A,
+        kind::STEP => 0x01_25,
+        kind::BACK => 0x01_26,
+        kind::TEST => 0x01_17_3A,
+        kind::CHOICE => 0x01_08_3B_3A,
+        kind::SEQUENCE => 0x01_09_3B_3A,
+        kind::STAR => 0x01_1A_3A,
+        kind::NOT => 0x01_04_20_17_3A,
+        kind::AND => 0x01_03_3B_17_3A,
+        kind::OR => 0x01_03_21_08_17_3B_17_3A,
+        kind::IMPLIES => 0x01_04_3B_17_3A,
+        kind::FINAL => 0x01_04_20_25,
+        kind::INITIAL => 0x01_04_20_26,
+        kind::NEXT => 0x01_03_3A_25,
+        kind::WEAK_NEXT => 0x01_04_3A_25,
+        kind::PREVIOUS => 0x01_03_3A_26,
+        kind::WEAK_PREVIOUS => 0x01_04_3A_26,
+        kind::EVENTUALLY => 0x01_03_3A_1A_25,
+        kind::ALWAYS => 0x01_04_3A_1A_25,
+        kind::ONCE => 0x01_03_3A_1A_26,
+        kind::SO_FAR => 0x01_04_3A_1A_26,
+        kind::UNTIL => 0x01_03_3B_1A_09_25_17_3A,
+        kind::SINCE => 0x01_03_3B_1A_09_17_3A_26,
         _ => DONE, // no kind has another number
     }
 }

@@ -1,5 +1,5 @@
 // Writing the tree of a record into a buffer, step by step; a step that writes a part goes down to that part, the record number falling.
-// Records beyond the 255th are left out, and the number behind them is MANY, however many they are.
+// Records beyond the 255th are left out, and the number after them is MANY, however many they are.
 ghost use mathlib.Core.Path.{_≡_};
 ghost use mathlib.Core.Bool.{true};
 ghost use Prim.Native.Nat.{_*_, _<_, _≤_};
@@ -16,7 +16,7 @@ pub const ROOM: usize = layout::RECORD_SIZE * layout::MOST_RECORDS;
 // More than any formula may have.
 const MANY: usize = 256;
 
-// Writes the tree of record r from number `from` on, and gives the number behind its last record.
+// Writes the tree of record r from number `from` on, and gives the number after its last record.
 pub fn write_tree(records: &[u8], r: usize, buffer: &mut [u8; ROOM], from: usize) -> usize
     requires { ⌜ Asked (now records) r × (from ≤ many) ⌝ }
     ensures { λ e. ⌜ Wrote (bytesAt (now (records .entry)) r from) from (sizeAt (now (records .entry)) r) (now (buffer .entry)) e (now (buffer .exit)) ⌝ }
