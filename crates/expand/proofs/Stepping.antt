@@ -5,9 +5,9 @@ use mathlib.Core.Path.{_≡_, refl, sym}
 use mathlib.Core.Bool.{true, false, true≢false}
 use mathlib.Core.List.{List, [], _∷_, _++_, append-assoc}
 use native.Mathlib.Nat.{add-assoc}
-use Rattle.meaning.specs.Record.{Kind, constant, atom, modal, move, test, choice, sequence, star, shorthand, unknown}
+use Rattle.meaning.specs.Record.{Kind, constant, atom, modal, move, test, choice, sequence, star, shorthand, unknown, columnsOf}
 use Rattle.meaning.specs.Record.{negated, both, either, implies, end, beside, along, until, since}
-use Rattle.meaning.specs.Record.{diamond, box, ahead, back, useA, useB, argumentA, argumentB, sortOf, known}
+use Rattle.meaning.specs.Record.{diamond, box, ahead, back, argumentsOf, sortOf, known}
 use Rattle.meaning.specs.Shorthand.{expansion}
 use Rattle.meaning.specs.Tree.{Tree, asForm, asPath, nodeOf, formFrom, pathFrom, formSize, pathSize, modalNumber, moveNumber}
 use Rattle.expand.specs.Steps.{formSteps, pathSteps, stepsOf, treeFrom, treeSize, fieldFrom, fieldSize}
@@ -21,8 +21,8 @@ module _ (K : Kind) (a b : ℕ) (t : ℕ → Tree) where
 
 pub node-from : (K : Kind) (a b : ℕ) (t : ℕ → Tree) (n : ℕ) → known true K ≡ true
     → treeFrom (sortOf K) (nodeOf K a b t) n ≡ stepsFrom K a b t (stepsOf K) n n
-unfolding known sortOf nodeOf asForm asPath expansion treeFrom treeSize formFrom pathFrom formSize pathSize modalNumber moveNumber
-    stepsOf formSteps pathSteps stepsFrom stepFrom stepSize nextUnder partOf partUse fieldFrom fieldSize useA useB argumentA argumentB
+unfolding known columnsOf nodeOf asForm asPath expansion treeFrom treeSize formFrom pathFrom formSize pathSize modalNumber moveNumber
+    stepsOf formSteps pathSteps stepsFrom stepFrom stepSize nextUnder partOf partUse fieldFrom fieldSize argumentsOf
     ownA ownB
 node-from (constant true) a b t n h = refl
 node-from (constant false) a b t n h = refl

@@ -10,7 +10,7 @@ use mathlib.Core.List.{List}
 use native.Mathlib.Omega.{arith}
 use lib.Dec.{eqb}
 use borrow.Author.Tests.{eq-eqb, ne-eqb}
-use Rattle.meaning.specs.Record.{Kind, constant, atom, modal, move, test, choice, sequence, star, shorthand, unknown}
+use Rattle.meaning.specs.Record.{Kind, constant, atom, modal, move, test, choice, sequence, star, shorthand, unknown, columnsOf}
 use Rattle.meaning.specs.Record.{count, kindAt, fieldA, fieldB, Sort, child, useA, useB, path, sortOf, known}
 use Rattle.meaning.specs.Translation.{names, uses, parent, Context, under, handed, contextIn, context}
 use Rattle.meaning.specs.WellFormed.{Fits, WellFormed}
@@ -33,7 +33,7 @@ module _ {s : List ℕ} {A : ℕ} (w : WellFormed false s A) where
   hands : (K : Kind) (first : Bool) (a b q r : ℕ) (u v : Context)
       → q < count s → known false K ≡ true → Fits s A q (useB K) b → 0 < names (useA K) a r + names (useB K) b r
       → (sortOf K ≡ path → Settled u v) → Settled (handed K first b q u) (handed K first b q v)
-  unfolding handed useA useB names known sortOf
+  unfolding handed columnsOf names known
   hands (constant x) first a b q r u v l k f n h = absurd (omega arith)
   hands atom first a b q r u v l k f n h = absurd (omega arith)
   hands (modal m) first a b q r u v l k f n h = (refl, omega (arith, f .0))

@@ -2,7 +2,7 @@
 use mathlib.Core.Path.{refl}
 use Rattle.meaning.specs.Three.{imp, greatest, least}
 use Rattle.meaning.specs.Run.{each, tabulate, written}
-use Rattle.meaning.specs.Record.{kinds, kindOf, sortOf, argumentA, argumentB, useA, useB, known}
+use Rattle.meaning.specs.Record.{kinds, kindOf, argumentsOf, known, columnsOf}
 use Rattle.meaning.specs.Formula.{mayStand, sameWay, goes}
 use Rattle.meaning.specs.Shorthand.{expansion}
 use Rattle.meaning.specs.Tree.{asForm, asPath, nodeOf, trees, treeAt, formSize, pathSize, modalNumber, moveNumber, formFrom, pathFrom}
@@ -15,7 +15,7 @@ use Rattle.meaning.specs.Examples.{Starred, Others}
 
 -- Every definition that an example runs through.
 open-all : Unit {0}
-unfolding imp greatest least each tabulate written kinds kindOf sortOf argumentA argumentB useA useB known mayStand sameWay goes expansion asForm asPath nodeOf trees treeAt formSize pathSize modalNumber moveNumber formFrom pathFrom moveSquare testSquare choiceSquare sequenceSquare passes starSquare diamondRow boxRow modalRow valueOf squareOf words names uses placesIn parentIn handed contextIn edgeRule joinRules testRules moveRules rulesOf rulesAt translation firstOf ground1 ground2 stray ground3 late ground4 beyond ground5 differ misfit ground6 ground6-last ground7 ground8 ground8-cells grounds9 ground10 isStar ground11 ground12 ground14 recordGrounds treeGrounds starGrounds checkGrounds expandGrounds valueGrounds translateGrounds expandAnswer expandAfter rowBy rowOf table valueAnswer valueAfter translateAnswer translateAfter
+unfolding imp greatest least each tabulate written kinds kindOf columnsOf argumentsOf known mayStand sameWay goes expansion asForm asPath nodeOf trees treeAt formSize pathSize modalNumber moveNumber formFrom pathFrom moveSquare testSquare choiceSquare sequenceSquare passes starSquare diamondRow boxRow modalRow valueOf squareOf words names uses placesIn parentIn handed contextIn edgeRule joinRules testRules moveRules rulesOf rulesAt translation firstOf ground1 ground2 stray ground3 late ground4 beyond ground5 differ misfit ground6 ground6-last ground7 ground8 ground8-cells grounds9 ground10 isStar ground11 ground12 ground14 recordGrounds treeGrounds starGrounds checkGrounds expandGrounds valueGrounds translateGrounds expandAnswer expandAfter rowBy rowOf table valueAnswer valueAfter translateAnswer translateAfter
 open-all = tt
 
 pub starred : Starred

@@ -9,9 +9,9 @@ use native.Mathlib.Nat.{eq-or-lt-of-le, le-of-suc-le-suc}
 use native.Mathlib.Omega.{arith}
 use lib.ListN.{length, getD, length-append, List·getD-append}
 use lib.Seq.{getD-at}
-use Rattle.meaning.specs.Record.{Kind, constant, atom, modal, move, test, choice, sequence, star, shorthand, unknown}
+use Rattle.meaning.specs.Record.{Kind, constant, atom, modal, move, test, choice, sequence, star, shorthand, unknown, columnsOf, argumentsOf}
 use Rattle.meaning.specs.Record.{Shorthand, negated, both, either, implies, end, beside, along, until, since}
-use Rattle.meaning.specs.Record.{Use, unused, atomNumber, child, useA, useB, argumentA, argumentB, Sort, sortOf}
+use Rattle.meaning.specs.Record.{Use, unused, atomNumber, child, useA, useB, Sort, sortOf}
 use Rattle.meaning.specs.Record.{count, kindAt, fieldA, fieldB}
 use Rattle.meaning.specs.Shorthand.{expansion}
 use Rattle.meaning.specs.Tree.{Tree, noTree, asForm, asPath, nodeOf, trees, treeAt, formAt, pathAt}
@@ -48,9 +48,9 @@ Agree atomNumber t t′ = Unit {0}
 Agree (child σ) t t′ = t ≡ t′
 
 -- A shorthand looks at its arguments alone.
-expansion-agrees : (σ : Shorthand) (t t′ u u′ : Tree) → Agree (argumentA σ) t t′ → Agree (argumentB σ) u u′
+expansion-agrees : (σ : Shorthand) (t t′ u u′ : Tree) → Agree (argumentsOf σ .0) t t′ → Agree (argumentsOf σ .1) u u′
     → expansion σ (asForm t) (asForm u) ≡ expansion σ (asForm t′) (asForm u′)
-unfolding expansion argumentA argumentB
+unfolding expansion argumentsOf
 expansion-agrees negated t t′ u u′ p q = cc
 expansion-agrees both t t′ u u′ p q = cc
 expansion-agrees either t t′ u u′ p q = cc
@@ -64,7 +64,7 @@ expansion-agrees since t t′ u u′ p q = cc
 -- A node looks at its children alone.
 node-agrees : (K : Kind) (a b : ℕ) (t t′ : ℕ → Tree) → Agree (useA K) (t a) (t′ a) → Agree (useB K) (t b) (t′ b)
     → nodeOf K a b t ≡ nodeOf K a b t′
-unfolding nodeOf useA useB
+unfolding nodeOf columnsOf
 node-agrees (constant v) a b t t′ p q = refl
 node-agrees atom a b t t′ p q = refl
 node-agrees (modal m) a b t t′ p q = cc
@@ -117,7 +117,7 @@ asSort Sort.path t = Tree.path (asPath t)
 
 -- A node is of its kind's sort.
 node-sort : (K : Kind) (a b : ℕ) (t : ℕ → Tree) → nodeOf K a b t ≡ asSort (sortOf K) (nodeOf K a b t)
-unfolding nodeOf sortOf asForm asPath
+unfolding nodeOf columnsOf asForm asPath
 node-sort (constant v) a b t = refl
 node-sort atom a b t = refl
 node-sort (modal m) a b t = refl

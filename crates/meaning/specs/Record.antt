@@ -5,8 +5,8 @@
 --   kindAt s r                  the kind of record r
 --   zeroByte, fieldA, fieldB    the other parts of record r
 --   recordBytes kind a b        the bytes of one record
---   sortOf kind                 whether such a record is a formula or a path
---   useA kind, useB kind        what its fields hold
+--   columnsOf kind              the table's row: whether such a record is a formula or a path, and what its fields hold
+--   sortOf kind, useA kind, useB kind   its three columns
 --   known full kind             whether a service takes the kind: `full` is true for the expander
 use Prim.Native.Nat.{ℕ, _+_, _*_, _/_, _%_}
 use mathlib.Core.Bool.{Bool, true, false}
@@ -85,69 +85,51 @@ kindOf number = getD kinds number unknown
 abbrev pub kindAt : List ℕ → ℕ → Kind
 kindAt s r = kindOf (kindByte s r)
 
-unfoldable pub sortOf : Kind → Sort
-sortOf (constant v) = formula
-sortOf atom = formula
-sortOf (modal m) = formula
-sortOf (move w) = path
-sortOf test = path
-sortOf choice = path
-sortOf sequence = path
-sortOf star = path
-sortOf (shorthand σ) = formula
-sortOf unknown = formula
-
--- ---- fields: the table's columns a and b
+-- ---- the table's columns: a record's sort, and what its fields a and b hold
 pub data Use : Type 0 where
   unused atomNumber : Use
   child : Sort → Use
 
+pub record Columns : Type 0 where
+  pub sort : Sort
+  pub a : Use
+  pub b : Use
+
+abbrev columns : Sort → Use → Use → Columns
+columns sort a b = record { sort = sort; a = a; b = b }
+
 -- Kinds 36 and 37 have no argument, 32 and 38 to 45 have one, the others two.
-unfoldable pub argumentA : Shorthand → Use
-argumentA negated = child formula
-argumentA both = child formula
-argumentA either = child formula
-argumentA implies = child formula
-argumentA (end w) = unused
-argumentA (beside w m) = child formula
-argumentA (along w m) = child formula
-argumentA until = child formula
-argumentA since = child formula
+unfoldable pub argumentsOf : Shorthand → Use × Use
+argumentsOf negated = (child formula, unused)
+argumentsOf both = (child formula, child formula)
+argumentsOf either = (child formula, child formula)
+argumentsOf implies = (child formula, child formula)
+argumentsOf (end w) = (unused, unused)
+argumentsOf (beside w m) = (child formula, unused)
+argumentsOf (along w m) = (child formula, unused)
+argumentsOf until = (child formula, child formula)
+argumentsOf since = (child formula, child formula)
 
-unfoldable pub argumentB : Shorthand → Use
-argumentB negated = unused
-argumentB both = child formula
-argumentB either = child formula
-argumentB implies = child formula
-argumentB (end w) = unused
-argumentB (beside w m) = unused
-argumentB (along w m) = unused
-argumentB until = child formula
-argumentB since = child formula
+unfoldable pub columnsOf : Kind → Columns
+columnsOf (constant v) = columns formula unused unused
+columnsOf atom = columns formula atomNumber unused
+columnsOf (modal m) = columns formula (child path) (child formula)
+columnsOf (move w) = columns path unused unused
+columnsOf test = columns path (child formula) unused
+columnsOf choice = columns path (child path) (child path)
+columnsOf sequence = columns path (child path) (child path)
+columnsOf star = columns path (child path) unused
+columnsOf (shorthand σ) = columns formula (argumentsOf σ .0) (argumentsOf σ .1)
+columnsOf unknown = columns formula unused unused
 
-unfoldable pub useA : Kind → Use
-useA (constant v) = unused
-useA atom = atomNumber
-useA (modal m) = child path
-useA (move w) = unused
-useA test = child formula
-useA choice = child path
-useA sequence = child path
-useA star = child path
-useA (shorthand σ) = argumentA σ
-useA unknown = unused
+abbrev pub sortOf : Kind → Sort
+sortOf κ = columnsOf κ .sort
 
-unfoldable pub useB : Kind → Use
-useB (constant v) = unused
-useB atom = unused
-useB (modal m) = child formula
-useB (move w) = unused
-useB test = unused
-useB choice = child path
-useB sequence = child path
-useB star = unused
-useB (shorthand σ) = argumentB σ
-useB unknown = unused
+abbrev pub useA : Kind → Use
+useA κ = columnsOf κ .a
+
+abbrev pub useB : Kind → Use
+useB κ = columnsOf κ .b
 
 unfoldable pub known : Bool → Kind → Bool
 known full (constant v) = true

@@ -7,7 +7,7 @@ use mathlib.Core.List.{List}
 use mathlib.Core.Logic.{_⊎_, inl, inr}
 use native.Mathlib.Omega.{arith}
 use lib.Dec.{eqb}
-use Rattle.meaning.specs.Record.{constant, atom, modal, move, test, choice, sequence, star, kinds, kindOf, kindAt}
+use Rattle.meaning.specs.Record.{constant, atom, modal, move, test, choice, sequence, star, kinds, kindOf, kindAt, columnsOf}
 use Rattle.meaning.specs.Record.{kindByte, count, known, formula, path, sortOf}
 use Rattle.meaning.specs.WellFormed.{WellFormed}
 use Rattle.meaning.proofs.Bounds.{le-or-lt}
@@ -63,7 +63,7 @@ core-number n h =
 
 pub formula-number : {s : List ℕ} {A : ℕ} → WellFormed false s A → (r : ℕ) → r < count s → sortOf (kindAt s r) ≡ formula
     → kindByte s r < 5
-unfolding sortOf kinds
+unfolding columnsOf kinds
 formula-number {s} w r l e =
     let n = kindByte s r in
     let core = core-number n (w .kinds r l) in
@@ -71,7 +71,7 @@ formula-number {s} w r l e =
 
 pub path-number : {s : List ℕ} {A : ℕ} → WellFormed false s A → (r : ℕ) → r < count s → sortOf (kindAt s r) ≡ path
     → (5 ≤ kindByte s r) × (kindByte s r < 11)
-unfolding sortOf kinds
+unfolding columnsOf kinds
 path-number {s} w r l e =
     let n = kindByte s r in
     let low : 5 ≤ n = elim (le-or-lt 5 n)

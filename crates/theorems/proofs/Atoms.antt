@@ -6,8 +6,8 @@ use mathlib.Core.Bool.{Bool}
 use mathlib.Core.List.{List}
 use native.Mathlib.Nat.{le-refl}
 use native.Mathlib.Omega.{arith}
-use Rattle.meaning.specs.Record.{Kind, Shorthand, negated, both, either, implies, end, beside, along, until, since}
-use Rattle.meaning.specs.Record.{Use, unused, atomNumber, child, useA, useB, argumentA, argumentB, count, kindAt}
+use Rattle.meaning.specs.Record.{Kind, Shorthand, negated, both, either, implies, end, beside, along, until, since, columnsOf, argumentsOf}
+use Rattle.meaning.specs.Record.{Use, unused, atomNumber, child, useA, useB, count, kindAt}
 use Rattle.meaning.specs.Formula.{Form, Path}
 use Rattle.meaning.specs.Shorthand.{expansion}
 use Rattle.meaning.specs.Tree.{Tree, asForm, asPath, nodeOf, treeAt, formAt}
@@ -39,9 +39,9 @@ module _ (A : ℕ) where
   Low (child σ) v t = treeAtoms t ≤ A
 
   -- A shorthand has its arguments' atoms.
-  expansion-atoms : (σ : Shorthand) (a b : ℕ) (t u : Tree) → Low (argumentA σ) a t → Low (argumentB σ) b u
+  expansion-atoms : (σ : Shorthand) (a b : ℕ) (t u : Tree) → Low (argumentsOf σ .0) a t → Low (argumentsOf σ .1) b u
       → formAtoms (expansion σ (asForm t) (asForm u)) ≤ A
-  unfolding expansion argumentA argumentB formAtoms
+  unfolding expansion argumentsOf formAtoms
   expansion-atoms negated a b t u p q = omega arith
   expansion-atoms both a b t u p q = omega arith
   expansion-atoms either a b t u p q = omega arith
@@ -55,7 +55,7 @@ module _ (A : ℕ) where
   -- A node has its children's.
   node-atoms : (K : Kind) (a b : ℕ) (tree : ℕ → Tree) → Low (useA K) a (tree a) → Low (useB K) b (tree b)
       → treeAtoms (nodeOf K a b tree) ≤ A
-  unfolding nodeOf useA useB asForm asPath formAtoms
+  unfolding nodeOf columnsOf asForm asPath formAtoms
   node-atoms (Kind.constant v) a b tree p q = omega arith
   node-atoms Kind.atom a b tree p q = omega arith
   node-atoms (Kind.modal m) a b tree p q = omega arith

@@ -7,7 +7,7 @@ use mathlib.Core.Bool.{false}
 use mathlib.Core.List.{List}
 use mathlib.Core.Logic.{_⊎_, inl, inr}
 use native.Mathlib.Omega.{arith}
-use Rattle.meaning.specs.Record.{Kind, constant, atom, modal, move, test, choice, sequence, star, shorthand, unknown}
+use Rattle.meaning.specs.Record.{Kind, constant, atom, modal, move, test, choice, sequence, star, shorthand, unknown, columnsOf}
 use Rattle.meaning.specs.Record.{count, kindAt, fieldA, fieldB, Sort, formula, path, sortOf}
 use Rattle.meaning.specs.Record.{Mode, Use, unused, atomNumber, child, useA, useB}
 use Rattle.meaning.specs.Translation.{parent}
@@ -58,7 +58,7 @@ module _ (s : List ℕ) (L : ℕ) (cell : ℕ → ℕ → ℕ) (q : ℕ) (l : q 
   -- The first child of q.
   first-onto : (K : Kind) → kindAt s q ≡ K → Shape s L cell K q → HoldsPath (useA K)
       → Onto s (fieldA s q) (contAt s (fieldA s q))
-  unfolding Shape useA sortOf
+  unfolding Shape columnsOf
   first-onto (constant v) e sh u = absurd u
   first-onto atom e sh u = absurd u
   first-onto (modal m) e (p, b) u =
@@ -75,7 +75,7 @@ module _ (s : List ℕ) (L : ℕ) (cell : ℕ → ℕ → ℕ) (q : ℕ) (l : q 
   -- The second.
   second-onto : (K : Kind) → kindAt s q ≡ K → Shape s L cell K q → HoldsPath (useB K)
       → Onto s (fieldB s q) (contAt s (fieldB s q))
-  unfolding Shape useB sortOf
+  unfolding Shape columnsOf
   second-onto (constant v) e sh u = absurd u
   second-onto atom e sh u = absurd u
   second-onto (modal m) e sh u = absurd u

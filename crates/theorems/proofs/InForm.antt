@@ -8,7 +8,7 @@ use mathlib.Core.List.{List, [], _∷_}
 use native.Mathlib.Omega.{arith}
 use borrow.Author.Tests.{lt-leb}
 use Rattle.meaning.specs.Record.{Kind, constant, atom, modal, move, test, choice, sequence, star, shorthand, unknown}
-use Rattle.meaning.specs.Record.{Mode, diamond, box, Way, ahead, back, count, kindAt, fieldA, fieldB, useA}
+use Rattle.meaning.specs.Record.{Mode, diamond, box, Way, ahead, back, count, kindAt, fieldA, fieldB, columnsOf}
 use Rattle.meaning.specs.Rule.{Rule, previously, negated}
 use Rattle.meaning.specs.Translation.{label, sameRules, edgeRule, joinRules, testRules, moveRules, rulesOf, rulesAt}
 use Rattle.meaning.specs.Translation.{asserted, translation}
@@ -111,7 +111,7 @@ module _ {s : List ℕ} {A : ℕ} (w : WellFormed false s A) where
     kind-formed r l (constant false) e sh = same-formed W narrow _ _ (labelled l) (omega arith)
     kind-formed r l (constant true) e sh = same-formed W narrow _ _ (labelled l) (omega arith)
     kind-formed r l atom e sh =
-        let a : fieldA s r < A = unfold useA in rw e at (w .first r l) in
+        let a : fieldA s r < A = unfold columnsOf in rw e at (w .first r l) in
         same-formed W narrow _ _ (labelled l) (omega arith)
     kind-formed r l (modal m) e (p, b) = same-formed W narrow _ _ (labelled l) (omega arith)
     kind-formed r l (move v) e c = move-formed W narrow _ _ (labelled l) (labelled c) v _

@@ -8,8 +8,8 @@ use mathlib.Core.List.{List}
 use mathlib.Core.Logic.{_↔_, Iff·trans, Iff·rfl}
 use native.Mathlib.Nat.{le-refl}
 use native.Mathlib.Omega.{arith}
-use Rattle.meaning.specs.Record.{Kind, constant, atom, modal, move, test, choice, sequence, star, shorthand, unknown}
-use Rattle.meaning.specs.Record.{Mode, count, kindAt, fieldA, fieldB, Sort, formula, path, sortOf, useA}
+use Rattle.meaning.specs.Record.{Kind, constant, atom, modal, move, test, choice, sequence, star, shorthand, unknown, columnsOf}
+use Rattle.meaning.specs.Record.{Mode, count, kindAt, fieldA, fieldB, Sort, formula, path, sortOf}
 use Rattle.meaning.specs.Tree.{asForm, asPath, nodeOf, treeAt, formAt, pathAt}
 use Rattle.meaning.specs.Value.{Row, valueOf, squareOf, modalRow}
 use Rattle.meaning.specs.Rule.{literal}
@@ -66,11 +66,11 @@ module _ {s : List ℕ} {A L : ℕ} {cell grid : ℕ → ℕ → ℕ} (w : WellF
         → Keeping L grid (rulesOf K (modeAt s r) (label A r) (label A (fieldA s r)) (label A (fieldB s r))
         (label A (contAt s r)) (fieldA s r))
         ↔ ((k : ℕ) → k < L → X r k ≡ meant s L cell (sortOf K) X r k)
-    unfolding Shape rulesOf meant sortOf nodeOf asForm asPath valueOf squareOf
+    unfolding Shape rulesOf meant columnsOf nodeOf asForm asPath valueOf squareOf
     settled (constant false) e sh t = rw t (simp (same-says L grid low, literal-label, literal-false) Iff·rfl)
     settled (constant true) e sh t = rw t (simp (same-says L grid low, literal-label, literal-true) Iff·rfl)
     settled atom e sh t =
-        let a : fieldA s r < A = unfold useA in rw e at (w .first r l) in
+        let a : fieldA s r < A = unfold columnsOf in rw e at (w .first r l) in
         let b : fieldA s r < 16_000 = omega arith in
         rw t (simp (same-says L grid low, literal-label, literal-column) (by-row (λ k h. same k (fieldA s r) h a)))
     settled (modal m) e (p, b) t =

@@ -6,8 +6,8 @@ use mathlib.Core.Bool.{Bool, true, false, cond}
 use mathlib.Core.List.{List, _++_}
 use native.Mathlib.Omega.{arith}
 use lib.ListN.{length, length-append}
-use Rattle.meaning.specs.Record.{recordSize, recordBytes, Kind, Mode, diamond, box, Way, ahead, back, kinds, kindOf}
-use Rattle.meaning.specs.Record.{Sort, sortOf, useA, useB, known}
+use Rattle.meaning.specs.Record.{recordSize, recordBytes, Kind, Mode, diamond, box, Way, ahead, back, kinds, kindOf, columnsOf}
+use Rattle.meaning.specs.Record.{Sort, sortOf, known}
 use Rattle.meaning.specs.Formula.{Form, Path}
 use Rattle.meaning.specs.Tree.{Tree, asForm, asPath, nodeOf}
 use Rattle.meaning.specs.Tree.{formSize, pathSize, modalNumber, moveNumber, formFrom, pathFrom}
@@ -80,7 +80,7 @@ module _ (full : Bool) (e : List ℕ) (A : ℕ) where
 
   -- ---- formulas and paths
   mutual
-    unfolding formFrom formSize formAtoms names useA useB known sortOf kinds kindOf nodeOf asForm asPath
+    unfolding formFrom formSize formAtoms names columnsOf known kinds kindOf nodeOf asForm asPath
 
     pub form-part : (F : Form) (n : ℕ) → formAtoms F ≤ A → Part n (formSize F) Sort.formula (Tree.formula F) (formFrom F n)
     form-part (Form.constant v) n low =

@@ -5,7 +5,7 @@ use Prim.Native.Nat.{ℕ, _<_}
 use mathlib.Core.Path.{_≡_, refl, sym, ap}
 use mathlib.Core.Bool.{true, false, true≢false}
 use mathlib.Core.List.{List}
-use Rattle.meaning.specs.Record.{Kind, constant, atom, modal, move, test, choice, sequence, star, shorthand, unknown}
+use Rattle.meaning.specs.Record.{Kind, constant, atom, modal, move, test, choice, sequence, star, shorthand, unknown, columnsOf}
 use Rattle.meaning.specs.Record.{count, kindAt, fieldA, fieldB, child, useA, useB, Sort, path, sortOf, known}
 use Rattle.meaning.specs.Tree.{pathAt}
 use Rattle.meaning.specs.Translation.{Context, handed, context}
@@ -53,7 +53,7 @@ module _ {s : List ℕ} {A : ℕ} (w : WellFormed false s A) (r : ℕ) (l : r < 
   -- By the kind; shorthands and unknown kinds are refused.
   shaped : (L : ℕ) (cell : ℕ → ℕ → ℕ) → (kindAt s r ≡ star → OneWay L cell (pathAt s (fieldA s r)))
       → (K : Kind) → kindAt s r ≡ K → Shape s L cell K r
-  unfolding Shape useA useB sortOf known handed
+  unfolding Shape columnsOf known handed
   shaped L cell body (constant v) e = tt
   shaped L cell body atom e = tt
   shaped L cell body (modal m) e = (first-part (modal m) e refl, second-child (modal m) e refl)

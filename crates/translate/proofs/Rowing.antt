@@ -8,7 +8,7 @@ use mathlib.Core.Logic.{inl, inr}
 use native.Mathlib.Omega.{arith}
 use lib.Dec.{eqb}
 use lib.ListN.{length, getD}
-use Rattle.meaning.specs.Record.{Kind, constant, atom, modal, move, test, choice, sequence, star, shorthand, unknown}
+use Rattle.meaning.specs.Record.{Kind, constant, atom, modal, move, test, choice, sequence, star, shorthand, unknown, columnsOf}
 use Rattle.meaning.specs.Record.{Mode, diamond, box, formula, sortOf, kinds, kindOf}
 use Rattle.meaning.specs.Record.{Use, unused, atomNumber, child, useA, useB, count, kindAt, kindByte, fieldA, fieldB}
 use Rattle.meaning.specs.Rule.{rule}
@@ -27,7 +27,7 @@ use Rattle.translate.specs.Rows.{edgeBody, edgeHead}
 -- ---- by the kind
 formula-same : (K : Kind) (m n : Mode) (x a b c d i : ℕ) → sortOf K ≡ formula
     → rulesOf K m x a b c i ≡ rulesOf K n x a b d i
-unfolding sortOf rulesOf
+unfolding columnsOf rulesOf
 formula-same (constant v) m n x a b c d i e = refl
 formula-same atom m n x a b c d i e = refl
 formula-same (modal k) m n x a b c d i e = refl

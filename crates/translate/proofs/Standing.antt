@@ -8,7 +8,7 @@ use mathlib.Core.List.{List, [], _∷_}
 use mathlib.Core.Logic.{_≢_, inl, inr}
 use native.Mathlib.Omega.{arith}
 use lib.Dec.{eqb}
-use Rattle.meaning.specs.Record.{Kind, move, test, choice, sequence, star, kinds, kindOf, kindAt, kindByte, count}
+use Rattle.meaning.specs.Record.{Kind, move, test, choice, sequence, star, kinds, kindOf, kindAt, kindByte, count, columnsOf}
 use Rattle.meaning.specs.Record.{fieldA, fieldB, path, sortOf, child, useA, useB, Way}
 use Rattle.meaning.specs.Formula.{Path, mayStand, goes, sameWay}
 use Rattle.meaning.specs.Tree.{asPath, nodeOf, treeAt, pathAt}
@@ -161,7 +161,7 @@ module _ (s : List ℕ) (r : ℕ) where
       kind-is = rw (← number, ten) star-kind
 
       pub star-asked : Formed s → r < count s → AskedPath s r
-      unfolding sortOf
+      unfolding columnsOf
       star-asked f l = record { whole = f; index = l; sorted = rw kind-is }
 
       pub body-part : Formed s → r < count s → (a < r) × AskedPath s a

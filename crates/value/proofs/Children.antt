@@ -5,7 +5,7 @@ use mathlib.Core.Path.{_≡_, refl}
 use mathlib.Core.List.{List}
 use native.Mathlib.Omega.{arith}
 use lib.ListN.{length}
-use Rattle.meaning.specs.Record.{kinds, kindAt, kindByte, fieldA, fieldB, Sort, sortOf}
+use Rattle.meaning.specs.Record.{kinds, kindAt, kindByte, fieldA, fieldB, Sort, sortOf, columnsOf}
 use Rattle.meaning.specs.Record.{atomNumber, child, useA, useB}
 use Rattle.records.proofs.Stretches.{stretch}
 use Rattle.value.specs.Valuing.{Asked}
@@ -36,7 +36,7 @@ module _ {s : List ℕ} {A L : ℕ} {cells : List ℕ} {r : ℕ} {t : List ℕ} 
 
   -- An atom's number is below the number of atoms.
   pub atom-low : {a : ℕ} → kindByte s r ≡ 2 → a ≡ fieldA s r → a < A
-  unfolding useA kinds
+  unfolding columnsOf kinds
   atom-low e f =
       let u = stretch useA atomNumber 2 1 refl (kindByte s r) (omega arith) (omega arith) in
       rw f (rw (← u) at (w .legal .formed .first r (w .index)))

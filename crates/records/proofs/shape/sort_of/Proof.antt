@@ -2,7 +2,7 @@
 use Prim.Native.Nat.{ℕ}
 use mathlib.Core.Path.{refl}
 use native.Mathlib.Omega.{arith}
-use Rattle.meaning.specs.Record.{Kind, kinds, sortOf}
+use Rattle.meaning.specs.Record.{Kind, kinds, sortOf, columnsOf}
 use Rattle.records.specs.Code.{sortCode}
 use Rattle.records.proofs.Stretches.{stretch, onward}
 use Rattle.records.proofs.shape.sort_of.Statement.{statement}
@@ -12,7 +12,7 @@ abbrev told : Kind → ℕ
 told κ = sortCode (sortOf κ)
 
 pub sort-of-spec : {M : Type 1} → statement M
-unfolding kinds sortOf sortCode
+unfolding kinds columnsOf sortCode
 sort-of-spec =
     tie.close
     (tie.spec

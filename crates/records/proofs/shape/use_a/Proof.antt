@@ -2,7 +2,7 @@
 use Prim.Native.Nat.{ℕ}
 use mathlib.Core.Path.{refl}
 use native.Mathlib.Omega.{arith}
-use Rattle.meaning.specs.Record.{Kind, kinds, useA, argumentA}
+use Rattle.meaning.specs.Record.{Kind, kinds, useA, argumentsOf, columnsOf}
 use Rattle.records.specs.Code.{sortCode, useCode}
 use Rattle.records.proofs.Stretches.{stretch, onward}
 use Rattle.records.proofs.shape.use_a.Statement.{statement}
@@ -12,7 +12,7 @@ abbrev held : Kind → ℕ
 held κ = useCode (useA κ)
 
 pub use-a-spec : {M : Type 1} → statement M
-unfolding kinds useA argumentA useCode sortCode
+unfolding kinds columnsOf argumentsOf useCode sortCode
 use-a-spec =
     tie.close
     (tie.spec

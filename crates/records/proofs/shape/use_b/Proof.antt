@@ -2,7 +2,7 @@
 use Prim.Native.Nat.{ℕ}
 use mathlib.Core.Path.{refl}
 use native.Mathlib.Omega.{arith}
-use Rattle.meaning.specs.Record.{Kind, kinds, useB, argumentB}
+use Rattle.meaning.specs.Record.{Kind, kinds, useB, argumentsOf, columnsOf}
 use Rattle.records.specs.Code.{sortCode, useCode}
 use Rattle.records.proofs.Stretches.{stretch, onward}
 use Rattle.records.proofs.shape.use_b.Statement.{statement}
@@ -12,7 +12,7 @@ abbrev held : Kind → ℕ
 held κ = useCode (useB κ)
 
 pub use-b-spec : {M : Type 1} → statement M
-unfolding kinds useB argumentB useCode sortCode
+unfolding kinds columnsOf argumentsOf useCode sortCode
 use-b-spec =
     tie.close
     (tie.spec
