@@ -2,16 +2,17 @@
 // in the same pass.
 ghost use mathlib.Core.Path.{_≡_};
 ghost use mathlib.Core.List.{[], _∷_};
-ghost use Prim.Native.Nat.{pred, _+_, _<_, _≤_};
+ghost use Prim.Native.Nat.{pred, min, _+_, _<_, _≤_};
+ghost use lib.ListN.{length};
 ghost use Rattle.meaning.specs.Run.{each};
 ghost use Rattle.meaning.specs.Record.{count, mostRecords};
 ghost use Rattle.meaning.specs.Refusal.{firstOf, ground1, ground7, ground8, recordGrounds, treeGrounds, formulaGrounds};
-ghost use Rattle.records.specs.Places.{Room, Places, FieldTaken, Taken};
+ghost use Rattle.records.specs.Places.{Places, FieldTaken, Taken};
 use crate::layout;
 use crate::shape;
 
-// In how many places each record is the child. There are two in a record, so that no count is over 510.
-type Counts = [u16; layout::MOST_RECORDS];
+// In how many places each record is the child; more than one is as good as two.
+type Counts = [u8; layout::MOST_RECORDS];
 
 // ---- the length and the atoms
 // 1: no records, a part of one, or over 255.
@@ -35,10 +36,20 @@ fn too_many(atoms: u64) -> bool
 }
 
 // ---- one field
+// One place more, up to two.
+fn one_more(count: u8) -> u8
+    ensures { λ n. ⌜ n ≡ min 2 (count + 1) ⌝ }
+{
+    if count == 0 {
+        return 1;
+    }
+    2
+}
+
 // The first of 3 to 6 that applies to a field of record r: u says what the field holds, and v is what stands in it. If none does, its
 // child is counted.
 fn field_refusal(s: &[u8], atoms: u64, counts: &mut Counts, r: usize, u: u8, v: usize) -> u8
-    requires { ⌜ (r < count (now s)) × (count (now s) ≤ mostRecords) × (u ≤ 3) × Room (now counts) ⌝ }
+    requires { ⌜ (r < count (now s)) × (count (now s) ≤ mostRecords) × (u ≤ 3) × (length (now counts) ≡ mostRecords) ⌝ }
     ensures { λ x. ⌜ FieldTaken (now (s .entry)) atoms r u v (now (counts .entry)) (now (counts .exit)) x ⌝ }
 {
     // 3: an unused field that isn't zero.
@@ -63,7 +74,7 @@ fn field_refusal(s: &[u8], atoms: u64, counts: &mut Counts, r: usize, u: u8, v: 
     if shape::sort_of(layout::kind_at(s, v)) != u {
         return refusals::WRONG_SORT;
     }
-    counts[v] += 1;
+    counts[v] = one_more(counts[v]);
     refusals::ACCEPTED
 }
 
@@ -137,7 +148,7 @@ pub fn tree_refusal(s: &[u8], full: bool, atoms: u64) -> u8
     requires { ⌜ (0 < count (now s)) × (count (now s) ≤ mostRecords) ⌝ }
     ensures { λ x. ⌜ x ≡ firstOf (treeGrounds full (now (s .entry)) atoms) ⌝ }
 {
-    let mut counts = [0u16; layout::MOST_RECORDS];
+    let mut counts = [0u8; layout::MOST_RECORDS];
     let x = records_refusal(s, full, atoms, &mut counts);
     if x != refusals::ACCEPTED {
         return x;

@@ -47,27 +47,23 @@ returns-6 c =
     (sym (by-child _ _ _ _ _ (omega arith) (omega arith) ∙ rw (lt-leb _ _ (d .if5 .left), other)))
     (λ z. omega arith)
 
-mul-counts : tie.Need-mul-counts
-mul-counts c = search needs
+element-copy-out-one-more : tie.Need-element-copy-out-one-more
+element-copy-out-one-more c = search needs
 
-element-copy-out-counts : tie.Need-element-copy-out-counts
-element-copy-out-counts c = search needs
-
-add-counts : tie.Need-add-counts
-add-counts c =
-    let e = c .before .before .before .before .before .before .before .before in
-    omega (arith, e .pre .3 .low (e .args .v) (omega arith))
+one-more-requires : tie.Need-one-more-requires
+one-more-requires c κs = search needs
 
 element-write-counts : tie.Need-element-write-counts
 element-write-counts c = search needs
 
 returns-7 : tie.Need-returns-7
 returns-7 c =
-    let d = c .before .before .before .before in
-    let same = rw (c .before .before .sort-of .ensures, c .before .before .before .kind-at .ensures) at (eq-eqb _ _ (c .before .if6 .left)) in
+    let e = c .before .before in
+    let d = e .before .before .before in
+    let same = rw (e .before .sort-of .ensures, e .before .before .kind-at .ensures) at (eq-eqb _ _ (e .if6 .left)) in
     stored (d .before .before .before .before .pre .3)
     (sym (by-child _ _ _ _ _ (omega arith) (omega arith) ∙ rw (lt-leb _ _ (d .if5 .left), same)))
-    (omega arith) (omega arith)
+    (omega arith) (omega arith) (c .one-more .ensures)
 
 pub field-refusal-spec : {M : Type 1} → statement M
 field-refusal-spec =
@@ -81,8 +77,7 @@ field-refusal-spec =
     kind-at-requires
     sort-of-requires
     returns-6
-    mul-counts
-    element-copy-out-counts
-    add-counts
+    element-copy-out-one-more
+    one-more-requires
     element-write-counts
     returns-7)

@@ -25,9 +25,6 @@ sub-last c = search needs
 loop-holds : tie.Need-loop-holds Inv-loop μ-loop
 loop-holds c = (search needs, scan-none _)
 
-mul-if1 : tie.Need-mul-if1 Inv-loop μ-loop
-mul-if1 c = search needs
-
 element-copy-out-if1 : tie.Need-element-copy-out-if1 Inv-loop μ-loop
 element-copy-out-if1 c = search needs
 
@@ -59,7 +56,6 @@ places-refusal-spec =
     record-count-requires
     sub-last
     loop-holds
-    mul-if1
     element-copy-out-if1
     returns
     add-q

@@ -10,7 +10,7 @@ use Rattle.meaning.specs.Record.{kindAt, known}
 use Rattle.meaning.specs.Refusal.{firstOf, recordGrounds}
 use Rattle.records.proofs.Fields.{Read, small}
 use Rattle.records.proofs.Order.{sooner, lesser, by-fields, as-read}
-use Rattle.records.proofs.Counting.{room, room-between, more}
+use Rattle.records.proofs.Counting.{more}
 use Rattle.records.proofs.fault.record_refusal.Statement.{statement}
 use Rattle.records.proofs.fault.record_refusal.Tie as tie
 
@@ -55,10 +55,10 @@ field-a-requires c κs = search needs
 field-b-requires : tie.Need-field-b-requires
 field-b-requires c κs = search needs
 
--- What the code has read of the record.
 abbrev start : tie.After-field-b → tie.Start
 start c = c .before .before .before .before .before .before .before .before .before .before
 
+-- What the code has read of the record.
 read : (c : tie.After-field-b)
     → let uses = c .before .before in
     let a = start c .args in
@@ -76,13 +76,13 @@ read c =
 field-refusal-requires : tie.Need-field-refusal-requires
 field-refusal-requires c κs =
     let e = start (c .before) in
-    (e .pre .0, e .pre .1, small _ (read (c .before) .use-a), room (e .pre .2) (omega arith))
+    (e .pre .0, e .pre .1, small _ (read (c .before) .use-a), e .pre .2 .size)
 
 field-refusal-requires-2 : tie.Need-field-refusal-requires-2
 field-refusal-requires-2 c κs =
     let b = c .before .before .before in
     let e = start b in
-    (e .pre .0, e .pre .1, small _ (read b .use-b), room-between (e .pre .2) (omega arith) (c .before .field-refusal .ensures))
+    (e .pre .0, e .pre .1, small _ (read b .use-b), c .before .field-refusal .ensures .size)
 
 -- The sooner of the fields' refusals is the record's.
 told : (c : tie.After-field-refusal2)
@@ -99,13 +99,11 @@ told c =
 
 returns-3 : tie.Need-returns-3
 returns-3 c =
-    let b = c .before .before .before .before .before in
-    let e = start b in
+    let first = c .before .before .before in
+    let b = first .before .before in
     record {
       refusal = sym (told (c .before) ∙ rw (eq-eqb _ _ (c .if3 .taken)));
-      places = λ z.
-          more (e .pre .2) (omega arith) (c .before .before .before .field-refusal .ensures) (c .before .field-refusal2 .ensures)
-          (read b) (c .if3 .taken) z;
+      places = more (read b) (start b .pre .2) (first .field-refusal .ensures) (c .before .field-refusal2 .ensures) (c .if3 .taken);
     }
 
 returns-4 : tie.Need-returns-4
