@@ -4,7 +4,7 @@ mod write;
 
 ghost use mathlib.Core.Path.{_≡_};
 ghost use Rattle.meaning.specs.Service.{expandAnswer, expandAfter};
-use records::fault;
+use checks::refusal;
 use records::layout;
 
 // The refusal, or 0 and the number of records.
@@ -20,14 +20,14 @@ pub fn expand(records: &[u8], atoms: u64, out: &mut [u8]) -> Counted
     ensures count { λ v. ⌜ v .count ≡ expandAnswer (now (records .entry)) atoms (now (out .entry)) .count ⌝ }
     ensures bytes { λ v. ⌜ now (out .exit) ≡ expandAfter (now (records .entry)) atoms (now (out .entry)) ⌝ }
 {
-    let refusal = fault::formula_refusal(records, true, atoms);
+    let refusal = refusal::formula_refusal(records, true, atoms);
     if refusal != refusals::ACCEPTED {
         return Counted { refusal, count: 0 };
     }
     let given = layout::record_count(records);
     let last = given - 1;
     // How many records there are is known only after the last one, and a refusal leaves the output as it was.
-    let mut buffer = [0u8; write::ROOM];
+    let mut buffer = [0u8; layout::MOST_BYTES];
     let n = write::write_tree(records, last, &mut buffer, 0);
     if layout::MOST_RECORDS < n {
         return Counted {

@@ -10,14 +10,16 @@ ghost use Rattle.expand.specs.Asking.{Asked, bytesAt, sizeAt, stepBytes,
 use crate::steps;
 use records::layout;
 
-// The bytes of 255 records.
-pub const ROOM: usize = layout::RECORD_SIZE * layout::MOST_RECORDS;
-
 // More than any formula may have.
 const MANY: usize = 256;
 
 // Writes the tree of record r from number `from` on, and gives the number after its last record.
-pub fn write_tree(records: &[u8], r: usize, buffer: &mut [u8; ROOM], from: usize) -> usize
+pub fn write_tree(
+    records: &[u8],
+    r: usize,
+    buffer: &mut [u8; layout::MOST_BYTES],
+    from: usize,
+) -> usize
     requires { ⌜ Asked (now records) r × (from ≤ many) ⌝ }
     ensures { λ e. ⌜ Wrote (bytesAt (now (records .entry)) r from) from (sizeAt (now (records .entry)) r) (now (buffer .entry)) e (now (buffer .exit)) ⌝ }
 {
@@ -40,7 +42,7 @@ fn write_step(
     r: usize,
     step: u8,
     under: usize,
-    buffer: &mut [u8; ROOM],
+    buffer: &mut [u8; layout::MOST_BYTES],
     n: usize,
 ) -> usize
     requires { ⌜ Asked (now records) r × (fits (kindAt (now records) r) step ≡ true) × (under ≤ many) × (n ≤ many) ⌝ }
@@ -52,7 +54,7 @@ fn write_step(
     if layout::MOST_RECORDS <= n {
         return MANY;
     }
-    put_record(
+    layout::put_record(
         buffer,
         n,
         steps::own_kind(step),
@@ -62,22 +64,8 @@ fn write_step(
     n + 1
 }
 
-// Writes one record as number n.
-fn put_record(buffer: &mut [u8; ROOM], n: usize, kind: u8, a: usize, b: usize)
-    requires { ⌜ (n < mostRecords) × (a < 65_536) × (b < 65_536) ⌝ }
-    ensures { λ _. ⌜ now (buffer .exit) ≡ sets (now (buffer .entry)) (recordSize * n) (recordBytes kind a b) ⌝ }
-{
-    let at = layout::RECORD_SIZE * n;
-    buffer[at] = kind;
-    buffer[at + 1] = 0;
-    buffer[at + 2] = (a % 256) as u8;
-    buffer[at + 3] = (a / 256) as u8;
-    buffer[at + 4] = (b % 256) as u8;
-    buffer[at + 5] = (b / 256) as u8;
-}
-
 // Copies a buffer's first bytes, as many as `size` says, to the start of the output.
-pub fn copy(buffer: &[u8; ROOM], size: usize, out: &mut [u8])
+pub fn copy(buffer: &[u8; layout::MOST_BYTES], size: usize, out: &mut [u8])
     requires { ⌜ (length (now buffer) ≡ recordSize * mostRecords) × (size ≤ length (now buffer)) × (size ≤ length (now out)) ⌝ }
     ensures { λ _. ⌜ now (out .exit) ≡ sets (now (out .entry)) 0 (take size (now (buffer .entry))) ⌝ }
 {

@@ -11,7 +11,7 @@ use value::Valued;
 pub extern "C" fn pasturequill_check(records: &[u8], atoms: u64) -> u8
     ensures { λ x. ⌜ x ≡ checkAnswer (now (records .entry)) atoms ⌝ }
 {
-    records::check(records, atoms)
+    checks::check(records, atoms)
 }
 
 // Expand: the number of records of the formula in core kinds, and in the output these records in postorder, six bytes each.

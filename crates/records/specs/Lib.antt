@@ -1,2 +1,1 @@
 pub mod Code
-pub mod Places

@@ -1,14 +1,17 @@
-// Where a record's parts stand among the bytes: nothing else knows the layout.
+// Where a record's parts stand among the bytes, reading and writing: nothing else knows the layout.
 ghost use mathlib.Core.Path.{_≡_};
-ghost use Prim.Native.Nat.{_+_, _<_};
+ghost use Prim.Native.Nat.{_+_, _*_, _<_};
 ghost use lib.ListN.{length};
-ghost use Rattle.meaning.specs.Record.{count, word, kindByte, zeroByte, fieldA, fieldB};
+ghost use lib.Seq.{sets};
+ghost use Rattle.meaning.specs.Record.{recordSize, mostRecords, recordBytes, count, word, kindByte, zeroByte, fieldA, fieldB};
 
 // The bytes of one record.
 pub const RECORD_SIZE: usize = 6;
 
 // No formula has more records.
 pub const MOST_RECORDS: usize = 255;
+
+pub const MOST_BYTES: usize = RECORD_SIZE * MOST_RECORDS;
 
 // Nor more atoms.
 pub const MOST_ATOMS: u64 = 32;
@@ -26,7 +29,7 @@ pub fn kind_at(s: &[u8], r: usize) -> u8
     s[RECORD_SIZE * r]
 }
 
-pub(crate) fn zero_at(s: &[u8], r: usize) -> u8
+pub fn zero_at(s: &[u8], r: usize) -> u8
     requires { ⌜ r < count (now s) ⌝ }
     ensures { λ z. ⌜ z ≡ zeroByte (now (s .entry)) r ⌝ }
 {
@@ -59,4 +62,19 @@ fn wide(x: u8) -> usize
     ensures { λ r. ⌜ (r ≡ x) × (r < 256) ⌝ }
 {
     x as usize
+}
+
+// ---- writing
+// Writes one record as number n, its zero byte too.
+pub fn put_record(buffer: &mut [u8; MOST_BYTES], n: usize, kind: u8, a: usize, b: usize)
+    requires { ⌜ (n < mostRecords) × (a < 65_536) × (b < 65_536) ⌝ }
+    ensures { λ _. ⌜ now (buffer .exit) ≡ sets (now (buffer .entry)) (recordSize * n) (recordBytes kind a b) ⌝ }
+{
+    let at = RECORD_SIZE * n;
+    buffer[at] = kind;
+    buffer[at + 1] = 0;
+    buffer[at + 2] = (a % 256) as u8;
+    buffer[at + 3] = (a / 256) as u8;
+    buffer[at + 4] = (b % 256) as u8;
+    buffer[at + 5] = (b / 256) as u8;
 }

@@ -1,15 +1,4 @@
-// Formula records: reading them from bytes, and checking them.
-pub mod fault;
+// A formula's records: their bytes, their kinds, and what a kind says. Nothing else knows the layout.
 pub mod kind;
 pub mod layout;
-mod shape;
-
-ghost use mathlib.Core.Path.{_≡_};
-ghost use Rattle.meaning.specs.Service.{checkAnswer};
-
-// The number of the first refusal that applies to the records, over so many atoms; 0 if they are accepted.
-pub fn check(records: &[u8], atoms: u64) -> u8
-    ensures { λ x. ⌜ x ≡ checkAnswer (now (records .entry)) atoms ⌝ }
-{
-    fault::formula_refusal(records, false, atoms)
-}
+pub mod shape;

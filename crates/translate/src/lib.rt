@@ -59,7 +59,7 @@ pub fn translate(records: &[u8], atoms: u64, out: &mut [u16]) -> Counted
 fn first_refusal(records: &[u8], atoms: u64) -> u8
     ensures { λ x. ⌜ x ≡ firstOf (starredGrounds (now (records .entry)) atoms) ⌝ }
 {
-    let x = records::check(records, atoms);
+    let x = checks::check(records, atoms);
     if x != refusals::ACCEPTED {
         return x;
     }

@@ -12,7 +12,7 @@ ghost use Rattle.meaning.specs.Value.{valueOf};
 ghost use Rattle.meaning.specs.Refusal.{firstOf, valueGrounds};
 ghost use Rattle.meaning.specs.Service.{valueAnswer, valueAfter, table};
 ghost use Rattle.value.specs.Valuing.{Legal};
-use records::fault;
+use checks::refusal;
 use records::layout;
 
 // The refusal, or 0 and the whole formula's value at the first instant.
@@ -43,13 +43,13 @@ pub fn value(records: &[u8], atoms: u64, instants: u64, cells: &[u8], out: &mut 
 fn first_refusal(records: &[u8], atoms: u64, instants: u64, cells: &[u8], room: usize) -> u8
     ensures { λ x. ⌜ x ≡ firstOf (valueGrounds (now (records .entry)) atoms instants (now (cells .entry)) room) ⌝ }
 {
-    if fault::wrong_length(records) {
+    if refusal::wrong_length(records) {
         return refusals::WRONG_LENGTH;
     }
     if trace::wrong_size(layout::MOST_ATOMS, atoms, instants, cells) {
         return refusals::WRONG_SIZE;
     }
-    let x = fault::tree_refusal(records, false, atoms);
+    let x = refusal::tree_refusal(records, false, atoms);
     if x != refusals::ACCEPTED {
         return x;
     }

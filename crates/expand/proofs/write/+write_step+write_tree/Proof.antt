@@ -19,7 +19,7 @@ use Rattle.expand.proofs.steps.own_kind.Reads as own-kind-reads
 use Rattle.expand.proofs.steps.own_b.Reads as own-b-reads
 use Rattle.expand.proofs.steps.part_of.Reads as part-of-reads
 use Rattle.expand.proofs.steps.row_of.Reads as row-of-reads
-use Rattle.expand.proofs.write.put_record.Reads as put-record-reads
+use Rattle.records.proofs.layout.put_record.Reads as put-record-reads
 use Rattle.records.proofs.layout.field_a.Reads as field-a-reads
 use Rattle.records.proofs.layout.kind_at.Reads as kind-at-reads
 use Rattle.expand.proofs.write.+write_step+write_tree.{statement}

@@ -1,0 +1,75 @@
+-- One record's first refusal by those of its fields. The conditions are numbered in their order, so of two fields' refusals
+-- the one with the lesser number comes first: the conditions of both, number by number, are gone through from the last.
+use Prim.Native.Nat.{ℕ, min, _<_}
+use mathlib.Core.Path.{_≡_, refl, _∙_}
+use mathlib.Core.Bool.{Bool, true, false, cond, not, _||_}
+use mathlib.Core.List.{List}
+use mathlib.Core.Logic.{_⊎_, inl, inr}
+use native.Mathlib.Omega.{arith}
+use borrow.Author.Tests.{ne-eqb}
+use lib.Dec.{eqb}
+use Rattle.meaning.specs.Record.{kindAt, zeroByte, fieldA, fieldB, useA, useB, known}
+use Rattle.meaning.specs.Refusal.{firstOf, recordGrounds, ground2, ground3, ground4, ground5, ground6}
+use Rattle.records.specs.Code.{useOf}
+use Rattle.checks.specs.Places.{fieldGrounds}
+use Rattle.checks.proofs.Fields.{Read, use-again}
+
+-- 0 says that there is none.
+abbrev pub sooner : ℕ → ℕ → ℕ
+sooner x y = cond (eqb x 0) y (cond (eqb y 0) x (min x y))
+
+pub lesser : {x y z : ℕ} → z ≡ sooner x y → (x ≡ 0 → ⊥) → (y ≡ 0 → ⊥) → z ≡ min x y
+lesser e p q = e ∙ rw (ne-eqb _ 0 p, ne-eqb _ 0 q)
+
+-- None, or one that comes behind n.
+abbrev Behind : ℕ → ℕ → Type 0
+Behind n x = (x ≡ 0) ⊎ (n < x)
+
+behind : {n m x : ℕ} (p : Bool) → n < m → Behind m x → Behind n (cond p m x)
+behind true h b = inr h
+behind false h (inl e) = inl e
+behind false h (inr l) = inr (omega arith)
+
+-- A condition n on both fields, before those that come behind it.
+both : (n : ℕ) {x y : ℕ} (p q : Bool) → 0 < n → Behind n x → Behind n y
+    → cond p n (cond q n (sooner x y)) ≡ sooner (cond p n x) (cond q n y)
+both n true true h a b = rw (ne-eqb n 0 (λ e. omega arith)) (omega arith)
+both n true false h a (inl e) = rw (e, ne-eqb n 0 (λ z. omega arith))
+both n {y = y} true false h a (inr l) = rw (ne-eqb n 0 (λ e. omega arith), ne-eqb y 0 (λ e. omega arith)) (omega arith)
+both n false true h (inl e) b = rw e
+both n {x} false true h (inr l) b = rw (ne-eqb x 0 (λ e. omega arith), ne-eqb n 0 (λ e. omega arith)) (omega arith)
+both n false false h a b = refl
+
+woven : (a3 b3 a4 b4 a5 b5 a6 b6 : Bool)
+    → cond a3 3 (cond b3 3 (cond a4 4 (cond b4 4 (cond a5 5 (cond b5 5 (cond a6 6 (cond b6 6 0)))))))
+    ≡ sooner (cond a3 3 (cond a4 4 (cond a5 5 (cond a6 6 0)))) (cond b3 3 (cond b4 4 (cond b5 5 (cond b6 6 0))))
+woven a3 b3 a4 b4 a5 b5 a6 b6 =
+    let to6 : (p : Bool) → Behind 5 (cond p 6 0) = λ p. behind p (omega arith) (inl refl) in
+    let to5 : (p q : Bool) → Behind 4 (cond p 5 (cond q 6 0)) = λ p q. behind p (omega arith) (to6 q) in
+    let to4 : (p q t : Bool) → Behind 3 (cond p 4 (cond q 5 (cond t 6 0))) = λ p q t. behind p (omega arith) (to5 q t) in
+    rw (
+      both 6 a6 b6 (omega arith) (inl refl) (inl refl),
+      both 5 a5 b5 (omega arith) (to6 a6) (to6 b6),
+      both 4 a4 b4 (omega arith) (to5 a5 a6) (to5 b5 b6),
+    )
+    (both 3 a3 b3 (omega arith) (to4 a4 a5 a6) (to4 b4 b5 b6))
+
+cond-or : (a b : Bool) (n m : ℕ) → cond (a || b) n m ≡ cond a n (cond b n m)
+cond-or true b n m = refl
+cond-or false b n m = refl
+
+pub by-fields : (full : Bool) (s : List ℕ) (A r : ℕ)
+    → firstOf (recordGrounds full s A r)
+    ≡ cond (not (known full (kindAt s r))) 2
+    (cond (not (eqb (zeroByte s r) 0)) 3
+    (sooner (firstOf (fieldGrounds s A r (useA (kindAt s r)) (fieldA s r))) (firstOf (fieldGrounds s A r (useB (kindAt s r)) (fieldB s r)))))
+unfolding firstOf fieldGrounds recordGrounds ground2 ground3 ground4 ground5 ground6
+by-fields full s A r = simp (cond-or, woven)
+
+-- The fields as the code reads them.
+pub as-read : (full : Bool) (s : List ℕ) (A r : ℕ) {ua ub a b x y : ℕ} → Read s r ua ub a b
+    → not (known full (kindAt s r)) ≡ false → zeroByte s r ≡ 0
+    → x ≡ firstOf (fieldGrounds s A r (useOf ua) a) → y ≡ firstOf (fieldGrounds s A r (useOf ub) b)
+    → firstOf (recordGrounds full s A r) ≡ sooner x y
+as-read full s A r read k z ex ey =
+    rw (by-fields, k, z) (simp (ex, ey, read .use-a, read .use-b, read .at-a, read .at-b, use-again))

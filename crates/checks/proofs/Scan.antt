@@ -1,0 +1,46 @@
+-- The grounds of records as a scan meets them. Every number is above 0, so a result of 0 says that no ground applies.
+-- Behind clear records comes the last record's sort, and behind that the places: what is found first is the number of
+-- the whole list.
+use Prim.Native.Nat.{ℕ, pred, _-_}
+use mathlib.Core.Path.{_≡_, refl, sym, _∙_}
+use mathlib.Core.Bool.{Bool}
+use mathlib.Core.List.{List, [], _∷_}
+use native.Mathlib.Numerals.{sub-one}
+use borrow.Author.Tests.{eq-eqb, ne-eqb}
+use lib.Dec.{lit<}
+use Rattle.meaning.specs.Run.{each}
+use Rattle.meaning.specs.Record.{formula, sortOf, kindOf, kindByte, kindAt, count}
+use Rattle.meaning.specs.Refusal.{firstOf, ground2, ground3, ground4, ground5, ground6, ground6-last, ground7, recordGrounds, treeGrounds}
+use Rattle.meaning.proofs.First.{Numbered, none-clear, clear-skip, found-stop, numbered-each}
+use Rattle.records.specs.Code.{sortCode}
+use Rattle.checks.proofs.Fields.{differ-code}
+
+pub record-numbered : (full : Bool) (s : List ℕ) (A r : ℕ) → Numbered (recordGrounds full s A r)
+unfolding recordGrounds ground2 ground3 ground4 ground5 ground6
+record-numbered full s A r = (lit< tt, (lit< tt, (lit< tt, (lit< tt, (lit< tt, tt)))))
+
+-- ---- all records
+module _ (full : Bool) (s : List ℕ) (A : ℕ) where
+  pub tree-record : {x : ℕ} → x ≡ firstOf (each (count s) (recordGrounds full s A)) → (x ≡ 0 → ⊥)
+      → x ≡ firstOf (treeGrounds full s A)
+  unfolding treeGrounds
+  tree-record e q = e ∙ sym (found-stop _ _ (λ z. q (e ∙ z)))
+
+  -- Behind clear records, where t tells the last record's sort.
+  pub record Behind (t : ℕ) : Type 0 where
+    pub last : (t ≡ 2 → ⊥) → 6 ≡ firstOf (treeGrounds full s A)
+    pub places : t ≡ 2 → firstOf (each (pred (count s)) (λ r. ground7 s r ∷ [])) ≡ firstOf (treeGrounds full s A)
+
+  pub tree-behind : {n kind t : ℕ} → firstOf (each (count s) (recordGrounds full s A)) ≡ 0
+      → n ≡ count s → kind ≡ kindByte s (n - 1) → t ≡ sortCode (sortOf (kindOf kind))
+      → Behind t
+  unfolding treeGrounds firstOf ground6-last
+  tree-behind {n} {kind} {t} none size at-last sort =
+      let records = each (count s) (recordGrounds full s A) in
+      let clear = none-clear records (numbered-each _ (count s) (record-numbered full s A)) none in
+      let told : t ≡ sortCode (sortOf (kindAt s (pred (count s)))) = sort ∙ rw (at-last, size, sub-one) in
+      let two : sortCode formula ≡ 2 = unfold sortCode in refl in
+      record {
+        last = λ q. rw (clear-skip records _ clear, differ-code, ← told, two, ne-eqb t 2 q);
+        places = λ e. rw (clear-skip records _ clear, differ-code, ← told, two, eq-eqb t 2 e);
+      }

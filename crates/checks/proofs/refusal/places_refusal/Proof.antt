@@ -1,0 +1,64 @@
+-- `fault::places_refusal` meets its contract: before record q, each record is the child of one place.
+use Prim.Native.Nat.{_-_, _≤_}
+use mathlib.Core.List.{[], _∷_}
+use Rattle.meaning.specs.Run.{each}
+use Rattle.meaning.specs.Refusal.{ground7}
+use Rattle.meaning.proofs.First.{Clear, scan-none, scan-more, scan-found, scan-done}
+use Rattle.checks.proofs.Counting.{single, not-single}
+use native.Mathlib.Omega.{arith}
+use borrow.Author.Needs.{needs}
+use Rattle.checks.proofs.refusal.places_refusal.Statement.{statement}
+use Rattle.checks.proofs.refusal.places_refusal.Tie as tie
+
+abbrev Inv-loop : tie.InvT-loop
+Inv-loop s counts last q₀ q = (q ≤ last) × Clear (each q (λ i. ground7 s i ∷ []))
+
+abbrev μ-loop : tie.MeasureT-loop
+μ-loop s counts last q₀ q = last - q
+
+record-count-requires : tie.Need-record-count-requires Inv-loop μ-loop
+record-count-requires c κs = search needs
+
+sub-last : tie.Need-sub-last Inv-loop μ-loop
+sub-last c = search needs
+
+loop-holds : tie.Need-loop-holds Inv-loop μ-loop
+loop-holds c = (search needs, scan-none _)
+
+element-copy-out-if1 : tie.Need-element-copy-out-if1 Inv-loop μ-loop
+element-copy-out-if1 c = search needs
+
+returns : tie.Need-returns Inv-loop μ-loop
+returns c =
+    let found = not-single (c .before .before .before .before .before .before .pre .2) (omega arith) (c .if1 .taken) in
+    scan-found _ _ _ (omega arith) (c .before .before .before .loop .inv .1) found (λ z. omega arith)
+
+add-q : tie.Need-add-q Inv-loop μ-loop
+add-q c = search needs
+
+loop-less : tie.Need-loop-less Inv-loop μ-loop
+loop-less c = search needs
+
+loop-again : tie.Need-loop-again Inv-loop μ-loop
+loop-again c =
+    let one = single (c .before .before .before .before .before .before .pre .2) (omega arith) (c .if1 .left) in
+    (omega arith, scan-more _ _ (c .before .before .before .loop .inv .1) one)
+
+returns-2 : tie.Need-returns-2 Inv-loop μ-loop
+returns-2 c = scan-done _ _ _ (omega arith) (c .before .loop .inv .1)
+
+pub places-refusal-spec : {M : Type 1} → statement M
+places-refusal-spec =
+    tie.close
+    (tie.spec
+    Inv-loop
+    μ-loop
+    record-count-requires
+    sub-last
+    loop-holds
+    element-copy-out-if1
+    returns
+    add-q
+    loop-less
+    loop-again
+    returns-2)
