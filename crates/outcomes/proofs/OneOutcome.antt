@@ -1,5 +1,5 @@
 -- No two outcomes fit, since each contract is equations: of the answer or each of its fields, and of each lent buffer. What both equal
--- a third are equal; so outcomes that fit are equal part by part. The front door promises what the function behind it promises, so
+-- a third are equal; so outcomes that fit are equal part by part. The front door promises what the function that it calls promises, so
 -- each service is proved once.
 use mathlib.Core.Path.{_≡_, sym, _∙_}
 use Rattle.pasturequill.proofs as door
@@ -58,12 +58,25 @@ one-outcome = record {
   kind-at = λ κs a o u. alone;
   field-a = λ κs a o u. alone;
   field-b = λ κs a o u. alone;
+  zero-at = λ κs a o u. alone;
+  put-record = λ κs a o u p q. λ i. (o .0, (same p q i, (tt, (tt, (tt, (tt, tt))))));
+  use-a = λ κs a o u. alone;
+  use-b = λ κs a o u. alone;
+  sort-of = λ κs a o u. alone;
+  takes = λ κs a o u. alone;
   wrong-length = λ κs a o u. alone;
   tree-refusal = λ κs a o u. alone;
   formula-refusal = λ κs a o u. alone;
   check = λ κs a o u. alone;
   wrong-size = λ κs a o u. alone;
   cells-refusal = λ κs a o u. alone;
+  move-square = λ κs a o u p q k j h g. same (p .cells k j h g) (q .cells k j h g);
+  test-square = λ κs a o u p q k j h g. same (p .cells k j h g) (q .cells k j h g);
+  join = λ κs a o u p q k j h g. same (p .cells k j h g) (q .cells k j h g);
+  cap = λ κs a o u p q k j h g. same (p .cells k j h g) (q .cells k j h g);
+  close = λ κs a o u p q k j h g. same (p .cells k j h g) (q .cells k j h g);
+  run-on = λ κs a o u p q k j h g. same (p .cells k j h g) (q .cells k j h g);
+  run-back = λ κs a o u p q k j h g. same (p .cells k j h g) (q .cells k j h g);
   expand = expanded;
   value = valued;
   judge = judged;

@@ -5,20 +5,25 @@
 --   Outcome ps r κs a        an answer, and the contents at exit of each buffer that is lent among the arguments a
 --   Fits ps r Post κs a o    the outcome o at the arguments a meets the contract
 --   OneFits ps r Post        two outcomes at the same arguments that both meet it are equal
+--   OneSquare ps r Post L s  two that both meet it have the same square s over L instants
 --   OneOutcome               so it is for each function that another crate or a C program can call
 -- But for `printing::run`, which answers nothing and is lent nothing: no contract can say what it writes.
-use Prim.Native.Nat.{ℕ}
+use Prim.Native.Nat.{ℕ, _<_}
 use mathlib.Core.Path.{_≡_}
 use mathlib.Core.List.{List}
 use contract.Lifetimes.{Lfts}
 use denote.Triple.Clauses.{Lasts, atExit}
 use borrow.Fn.Kinds.{PK, RK, Dens, Out, resT, endedOf}
 use Rattle.three.proofs as three
-use Rattle.records.proofs as records
 use Rattle.records.proofs.layout as layout
-use Rattle.records.proofs.fault as fault
+use Rattle.records.proofs.shape as shape
+use Rattle.checks.proofs as checks
+use Rattle.checks.proofs.refusal as refusal
 use Rattle.expand.proofs as expand
 use Rattle.trace.proofs as trace
+use Rattle.squares.specs.Cells.{at}
+use Rattle.squares.proofs.square as square
+use Rattle.squares.proofs.star as star
 use Rattle.value.proofs as value
 use Rattle.judge.proofs as judge
 use Rattle.translate.proofs as translate
@@ -35,6 +40,12 @@ module _ {n : ℕ} (ps : List (PK n)) (r : RK n) where
   abbrev pub OneFits : Out n ps r → Type 0
   OneFits Post = (κs : Lfts n) (a : Dens κs ps) (o u : Outcome κs a) → Fits Post κs a o → Fits Post κs a u → o ≡ u
 
+  -- A path's square over L instants is 1,024 bytes long whatever L is. The functions on squares tell what is between two instants; no
+  -- function looks at the other bytes, and no contract speaks of them.
+  abbrev pub OneSquare : Out n ps r → ((κs : Lfts n) → Dens κs ps → ℕ) → ((κs : Lfts n) (a : Dens κs ps) → Outcome κs a → List ℕ) → Type 0
+  OneSquare Post L square = (κs : Lfts n) (a : Dens κs ps) (o u : Outcome κs a) → Fits Post κs a o → Fits Post κs a u
+      → (k j : ℕ) → k < L κs a → j < L κs a → at (square κs a o) k j ≡ at (square κs a u) k j
+
 pub record OneOutcome : Type 0 where
   -- three
   pub least : OneFits three.least.Kinds.ps three.least.Kinds.r three.least.Reads.Post
@@ -46,13 +57,28 @@ pub record OneOutcome : Type 0 where
   pub kind-at : OneFits layout.kind_at.Kinds.ps layout.kind_at.Kinds.r layout.kind_at.Reads.Post
   pub field-a : OneFits layout.field_a.Kinds.ps layout.field_a.Kinds.r layout.field_a.Reads.Post
   pub field-b : OneFits layout.field_b.Kinds.ps layout.field_b.Kinds.r layout.field_b.Reads.Post
-  pub wrong-length : OneFits fault.wrong_length.Kinds.ps fault.wrong_length.Kinds.r fault.wrong_length.Reads.Post
-  pub tree-refusal : OneFits fault.tree_refusal.Kinds.ps fault.tree_refusal.Kinds.r fault.tree_refusal.Reads.Post
-  pub formula-refusal : OneFits fault.formula_refusal.Kinds.ps fault.formula_refusal.Kinds.r fault.formula_refusal.Reads.Post
-  pub check : OneFits records.check.Kinds.ps records.check.Kinds.r records.check.Reads.Post
+  pub zero-at : OneFits layout.zero_at.Kinds.ps layout.zero_at.Kinds.r layout.zero_at.Reads.Post
+  pub put-record : OneFits layout.put_record.Kinds.ps layout.put_record.Kinds.r layout.put_record.Reads.Post
+  pub use-a : OneFits shape.use_a.Kinds.ps shape.use_a.Kinds.r shape.use_a.Reads.Post
+  pub use-b : OneFits shape.use_b.Kinds.ps shape.use_b.Kinds.r shape.use_b.Reads.Post
+  pub sort-of : OneFits shape.sort_of.Kinds.ps shape.sort_of.Kinds.r shape.sort_of.Reads.Post
+  pub takes : OneFits shape.takes.Kinds.ps shape.takes.Kinds.r shape.takes.Reads.Post
+  -- checks
+  pub wrong-length : OneFits refusal.wrong_length.Kinds.ps refusal.wrong_length.Kinds.r refusal.wrong_length.Reads.Post
+  pub tree-refusal : OneFits refusal.tree_refusal.Kinds.ps refusal.tree_refusal.Kinds.r refusal.tree_refusal.Reads.Post
+  pub formula-refusal : OneFits refusal.formula_refusal.Kinds.ps refusal.formula_refusal.Kinds.r refusal.formula_refusal.Reads.Post
+  pub check : OneFits checks.check.Kinds.ps checks.check.Kinds.r checks.check.Reads.Post
   -- trace
   pub wrong-size : OneFits trace.wrong_size.Kinds.ps trace.wrong_size.Kinds.r trace.wrong_size.Reads.Post
   pub cells-refusal : OneFits trace.cells_refusal.Kinds.ps trace.cells_refusal.Kinds.r trace.cells_refusal.Reads.Post
+  -- squares
+  pub move-square : OneSquare square.move_square.Kinds.ps square.move_square.Kinds.r square.move_square.Reads.Post (λ κs a. a .1 .0) (λ κs a o. o .0)
+  pub test-square : OneSquare square.test_square.Kinds.ps square.test_square.Kinds.r square.test_square.Reads.Post (λ κs a. a .1 .1 .0) (λ κs a o. o .0)
+  pub join : OneSquare square.join.Kinds.ps square.join.Kinds.r square.join.Reads.Post (λ κs a. a .1 .1 .1 .1 .1 .0) (λ κs a o. o .1 .1 .1 .1 .0)
+  pub cap : OneSquare square.cap.Kinds.ps square.cap.Kinds.r square.cap.Reads.Post (λ κs a. a .1 .1 .1 .0) (λ κs a o. o .1 .0)
+  pub close : OneSquare star.close.Kinds.ps star.close.Kinds.r star.close.Reads.Post (λ κs a. a .1 .0) (λ κs a o. o .1 .0)
+  pub run-on : OneSquare star.run_on.Kinds.ps star.run_on.Kinds.r star.run_on.Reads.Post (λ κs a. a .1 .0) (λ κs a o. o .1 .0)
+  pub run-back : OneSquare star.run_back.Kinds.ps star.run_back.Kinds.r star.run_back.Reads.Post (λ κs a. a .1 .0) (λ κs a o. o .1 .0)
   -- expand, value, judge, translate, printing
   pub expand : OneFits expand.expand.Kinds.ps expand.expand.Kinds.r expand.expand.Reads.Post
   pub value : OneFits value.value.Kinds.ps value.value.Kinds.r value.value.Reads.Post
