@@ -5,12 +5,9 @@ use Rattle.meaning.specs.Service.{checkAnswer}
 use Rattle.checks.proofs.check.Statement.{statement}
 use Rattle.checks.proofs.check.Tie as tie
 
-formula-refusal-requires : tie.Need-formula-refusal-requires
-formula-refusal-requires c κs = search needs
-
 returns : tie.Need-returns
 unfolding checkAnswer checkGrounds
 returns c = c .formula-refusal .ensures
 
 pub check-spec : {M : Type 1} → statement M
-check-spec = tie.close (tie.spec formula-refusal-requires returns)
+check-spec = tie.close (tie.spec (λ c κs. search needs) returns)

@@ -57,15 +57,9 @@ long : (c : tie.Else2) → length (tree c) ≡ recordSize * (c .before .write-tr
 long c = rw (few c .1) (whole-length _)
 
 -- ---- the calls and the returns
-formula-refusal-requires : tie.Need-formula-refusal-requires
-formula-refusal-requires c κs = search needs
-
 returns : tie.Need-returns
 returns c =
     answers-refusal _ _ _ (refused _ _ _ (c .before .formula-refusal .ensures) (c .if1 .taken)) (c .if1 .taken)
-
-record-count-requires : tie.Need-record-count-requires
-record-count-requires c κs = search needs
 
 sub-last : tie.Need-sub-last
 sub-last c = omega (arith, c .record-count .ensures, formed (c .before) .some)
@@ -76,9 +70,6 @@ write-tree-requires c κs = rw (last (c .before)) (last-asked (formed (c .before
 returns-2 : tie.Need-returns-2
 returns-2 c =
     answers-refusal _ _ _ (refused-many _ _ _ (formed (c .before .before .before .before)) (exceeds c)) (λ z. omega arith)
-
-mul-size : tie.Need-mul-size
-mul-size c = search needs
 
 returns-3 : tie.Need-returns-3
 returns-3 c =
@@ -91,9 +82,6 @@ copy-requires c κs =
     let two = c .before .before .before in
     let full = simp length-sets at (ap length (made two)) in
     (full, omega (arith, full, two .if2 .left), c .before .before .if3 .left)
-
-same-length : tie.Need-same-length
-same-length c = search needs
 
 returns-4 : tie.Need-returns-4
 returns-4 c =
@@ -112,14 +100,14 @@ pub expand-spec : {M : Type 1} → statement M
 expand-spec =
     tie.close
     (tie.spec
-    formula-refusal-requires
+    (λ c κs. search needs)
     returns
-    record-count-requires
+    (λ c κs. search needs)
     sub-last
     write-tree-requires
     returns-2
-    mul-size
+    (λ c. search needs)
     returns-3
     copy-requires
-    same-length
+    (λ c. search needs)
     returns-4)

@@ -14,9 +14,6 @@ returns c = by-body _ (c .before .before .before .pre) (c .before .literal-at .e
 literal-at-requires-2 : tie.Need-literal-at-requires-2
 literal-at-requires-2 c κs = may-look _ (c .before .before .before .pre) .1
 
-least-requires : tie.Need-least-requires
-least-requires c κs = search needs
-
 literal-at-requires-3 : tie.Need-literal-at-requires-3
 literal-at-requires-3 c κs = may-look _ (c .before .before .before .before .before .pre) .2
 
@@ -57,7 +54,7 @@ fails-at-spec =
     literal-at-requires
     returns
     literal-at-requires-2
-    least-requires
+    (λ c κs. search needs)
     literal-at-requires-3
     returns-2
     literal-at-requires-4

@@ -29,12 +29,6 @@ abbrev μ-rules : tie.MeasureT-rules
 rules-holds : tie.Need-rules-holds Inv-loop μ-loop Inv-rules μ-rules
 rules-holds c = (search needs, none _)
 
-rule-at-requires : tie.Need-rule-at-requires Inv-loop μ-loop Inv-rules μ-rules
-rule-at-requires c κs = search needs
-
-end-of-requires : tie.Need-end-of-requires Inv-loop μ-loop Inv-rules μ-rules
-end-of-requires c κs = search needs
-
 start-of-requires : tie.Need-start-of-requires Inv-loop μ-loop Inv-rules μ-rules
 start-of-requires c κs = c .before .before .before .before .before .before .pre .some
 
@@ -59,12 +53,6 @@ fails-at-requires c κs =
       instant = omega (arith, w .last);
     }
 
-add-k : tie.Need-add-k Inv-loop μ-loop Inv-rules μ-rules
-add-k c = search needs
-
-loop-less : tie.Need-loop-less Inv-loop μ-loop Inv-rules μ-rules
-loop-less c = search needs
-
 loop-again : tie.Need-loop-again Inv-loop μ-loop Inv-rules μ-rules
 loop-again c =
     let turn = c .before .before .before in
@@ -78,12 +66,6 @@ loop-again c =
       more _ _ (turn .loop .inv .2)
           (holding _ _ _ _ w _ (omega arith) (omega arith) (r .rule-at .ensures) (c .before .fails-at .ensures) (c .if1 .left)),
     )
-
-add-i : tie.Need-add-i Inv-loop μ-loop Inv-rules μ-rules
-add-i c = search needs
-
-rules-less : tie.Need-rules-less Inv-loop μ-loop Inv-rules μ-rules
-rules-less c = search needs
 
 rules-again : tie.Need-rules-again Inv-loop μ-loop Inv-rules μ-rules
 rules-again c =
@@ -125,16 +107,16 @@ first-failure-spec =
     Inv-rules
     μ-rules
     rules-holds
-    rule-at-requires
-    end-of-requires
+    (λ c κs. search needs)
+    (λ c κs. search needs)
     start-of-requires
     loop-holds
     fails-at-requires
-    add-k
-    loop-less
+    (λ c. search needs)
+    (λ c. search needs)
     loop-again
-    add-i
-    rules-less
+    (λ c. search needs)
+    (λ c. search needs)
     rules-again
     returns
     returns-2)

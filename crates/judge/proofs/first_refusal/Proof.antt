@@ -14,9 +14,6 @@ fits : (c : tie.Else1)
     ground8-cells mostColumns (a .width) (a .instants) (a .cells .now) .applies ≡ false
 fits c = sym (c .before .wrong-size .ensures) ∙ c .if1 .left
 
-wrong-size-requires : tie.Need-wrong-size-requires
-wrong-size-requires c κs = search needs
-
 returns : tie.Need-returns
 returns c = refused-8 _ _ _ _ (sym (c .before .wrong-size .ensures) ∙ c .if1 .taken)
 
@@ -25,9 +22,6 @@ rules-refusal-requires c κs = size-fits _ _ _ _ (fits c) .0
 
 returns-2 : tie.Need-returns-2
 returns-2 c = refused-13 _ _ _ _ (fits (c .before .before)) (c .before .rules-refusal .ensures) (c .if2 .taken)
-
-cells-refusal-requires : tie.Need-cells-refusal-requires
-cells-refusal-requires c κs = search needs
 
 returns-3 : tie.Need-returns-3
 returns-3 c =
@@ -39,9 +33,9 @@ pub first-refusal-spec : {M : Type 1} → statement M
 first-refusal-spec =
     tie.close
     (tie.spec
-    wrong-size-requires
+    (λ c κs. search needs)
     returns
     rules-refusal-requires
     returns-2
-    cells-refusal-requires
+    (λ c κs. search needs)
     returns-3)

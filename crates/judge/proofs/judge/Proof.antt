@@ -7,9 +7,6 @@ use Rattle.judge.proofs.Grounds.{filled}
 use Rattle.judge.proofs.judge.Statement.{statement}
 use Rattle.judge.proofs.judge.Tie as tie
 
-first-refusal-requires : tie.Need-first-refusal-requires
-first-refusal-requires c κs = search needs
-
 returns : tie.Need-returns
 unfolding judgeAnswer
 returns c =
@@ -29,4 +26,4 @@ returns-2 c =
     (told .refused, (told .held, (told .failing, told .failed)))
 
 pub judge-spec : {M : Type 1} → statement M
-judge-spec = tie.close (tie.spec first-refusal-requires returns first-failure-requires returns-2)
+judge-spec = tie.close (tie.spec (λ c κs. search needs) returns first-failure-requires returns-2)

@@ -5,15 +5,6 @@ use Rattle.printing.proofs.Putting.{put-more}
 use Rattle.printing.proofs.put_last.Statement.{statement}
 use Rattle.printing.proofs.put_last.Tie as tie
 
-put-bytes-requires : tie.Need-put-bytes-requires
-put-bytes-requires c κs = search needs
-
-put-number-requires : tie.Need-put-number-requires
-put-number-requires c κs = search needs
-
-same-length : tie.Need-same-length
-same-length c = search needs
-
 returns : tie.Need-returns
 returns c =
     let number = c .before .before in
@@ -22,4 +13,4 @@ returns c =
     (put-more (word .put-bytes .ensures) put, omega (arith, word .put-bytes .ensures .place))
 
 pub put-last-spec : {M : Type 1} → statement M
-put-last-spec = tie.close (tie.spec put-bytes-requires put-number-requires same-length returns)
+put-last-spec = tie.close (tie.spec (λ c κs. search needs) (λ c κs. search needs) (λ c. search needs) returns)

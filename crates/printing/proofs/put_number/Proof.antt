@@ -12,15 +12,6 @@ use Rattle.printing.proofs.put_number.Tie as tie
 few : (c : tie.After-decimal) → c .decimal .result ≤ 5
 few c = few-digits _ _ (c .before .before .before .pre .0) (c .decimal .ensures .1 .0)
 
-decimal-requires : tie.Need-decimal-requires
-decimal-requires c κs = search needs
-
-array-share-prefix-digits : tie.Need-array-share-prefix-digits
-array-share-prefix-digits c = search needs
-
-slice-aggregate-put-bytes : tie.Need-slice-aggregate-put-bytes
-slice-aggregate-put-bytes c = search needs
-
 put-bytes-requires : tie.Need-put-bytes-requires
 put-bytes-requires c κs = omega (arith, few (c .before .before))
 
@@ -29,9 +20,6 @@ slice-write-out c = omega (arith, few (c .before .before .before .before .before
 
 add-result : tie.Need-add-result
 add-result c = omega (arith, few (c .before .before .before .before .before))
-
-same-length : tie.Need-same-length
-same-length c = search needs
 
 returns : tie.Need-returns
 unfolding told
@@ -46,11 +34,11 @@ pub put-number-spec : {M : Type 1} → statement M
 put-number-spec =
     tie.close
     (tie.spec
-    decimal-requires
-    array-share-prefix-digits
-    slice-aggregate-put-bytes
+    (λ c κs. search needs)
+    (λ c. search needs)
+    (λ c. search needs)
     put-bytes-requires
     slice-write-out
     add-result
-    same-length
+    (λ c. search needs)
     returns)

@@ -24,32 +24,8 @@ kept c = put-length (c .loop .inv .1)
 loop-holds : tie.Need-loop-holds Inv-loop μ-loop
 loop-holds c = (omega arith, put-first _ _ _, omega arith)
 
-mul-wide : tie.Need-mul-wide Inv-loop μ-loop
-mul-wide c = search needs
-
-add-wide : tie.Need-add-wide Inv-loop μ-loop
-add-wide c = search needs
-
-mul-wide-2 : tie.Need-mul-wide-2 Inv-loop μ-loop
-mul-wide-2 c = search needs
-
-shared-slice-read-wide : tie.Need-shared-slice-read-wide Inv-loop μ-loop
-shared-slice-read-wide c = search needs
-
-wide-requires : tie.Need-wide-requires Inv-loop μ-loop
-wide-requires c κs = search needs
-
-gap-requires : tie.Need-gap-requires Inv-loop μ-loop
-gap-requires c κs = search needs
-
 put-number-requires : tie.Need-put-number-requires Inv-loop μ-loop
 put-number-requires c κs = (c .before .wide .ensures .1, omega (arith, kept (c .before .before .before .before .before)))
-
-add-j : tie.Need-add-j Inv-loop μ-loop
-add-j c = search needs
-
-loop-less : tie.Need-loop-less Inv-loop μ-loop
-loop-less c = search needs
 
 loop-again : tie.Need-loop-again Inv-loop μ-loop
 unfolding word
@@ -76,15 +52,15 @@ put-rule-spec =
     Inv-loop
     μ-loop
     loop-holds
-    mul-wide
-    add-wide
-    mul-wide-2
-    shared-slice-read-wide
-    wide-requires
-    gap-requires
+    (λ c. search needs)
+    (λ c. search needs)
+    (λ c. search needs)
+    (λ c. search needs)
+    (λ c κs. search needs)
+    (λ c κs. search needs)
     put-number-requires
-    add-j
-    loop-less
+    (λ c. search needs)
+    (λ c. search needs)
     loop-again
     same-length
     returns)

@@ -30,12 +30,6 @@ put-rule-requires c κs =
     let start = loop .before .before .before in
     (omega (arith, start .pre), omega (arith, kept loop, start .pre))
 
-add-i : tie.Need-add-i Inv-loop μ-loop
-add-i c = search needs
-
-loop-less : tie.Need-loop-less Inv-loop μ-loop
-loop-less c = search needs
-
 loop-again : tie.Need-loop-again Inv-loop μ-loop
 loop-again c =
     let put = c .before .before in
@@ -58,8 +52,8 @@ put-rules-spec =
     μ-loop
     loop-holds
     put-rule-requires
-    add-i
-    loop-less
+    (λ c. search needs)
+    (λ c. search needs)
     loop-again
     same-length
     returns)

@@ -22,21 +22,6 @@ kept : (c : tie.After-put-rules)
 kept c = put-length (c .put-rules .ensures .0)
 
 -- ---- the needs
-slice-aggregate-translate : tie.Need-slice-aggregate-translate
-slice-aggregate-translate c = search needs
-
-translate-requires : tie.Need-translate-requires
-translate-requires c κs = search needs
-
-slice-aggregate-put-last : tie.Need-slice-aggregate-put-last
-slice-aggregate-put-last c = search needs
-
-cast-put-last : tie.Need-cast-put-last
-cast-put-last c = search needs
-
-put-last-requires : tie.Need-put-last-requires
-put-last-requires c κs = search needs
-
 returns : tie.Need-returns
 returns c =
     let t = c .before .before .before .before .before .before .before in
@@ -44,16 +29,10 @@ returns c =
     let (put, end) = c .put-last .ensures in
     put-written (rw (← e) at put) (omega arith)
 
-slice-aggregate-put-rules : tie.Need-slice-aggregate-put-rules
-slice-aggregate-put-rules c = search needs
-
 put-rules-requires : tie.Need-put-rules-requires
 put-rules-requires c κs =
     let few = few (c .before .before) in
     (omega arith, omega arith)
-
-slice-aggregate-put-last-2 : tie.Need-slice-aggregate-put-last-2
-slice-aggregate-put-last-2 c = search needs
 
 put-last-requires-2 : tie.Need-put-last-requires-2
 put-last-requires-2 c κs =
@@ -75,14 +54,14 @@ pub text-spec : {M : Type 1} → statement M
 text-spec =
     tie.close
     (tie.spec
-    slice-aggregate-translate
-    translate-requires
-    slice-aggregate-put-last
-    cast-put-last
-    put-last-requires
+    (λ c. search needs)
+    (λ c κs. search needs)
+    (λ c. search needs)
+    (λ c. search needs)
+    (λ c κs. search needs)
     returns
-    slice-aggregate-put-rules
+    (λ c. search needs)
     put-rules-requires
-    slice-aggregate-put-last-2
+    (λ c. search needs)
     put-last-requires-2
     returns-2)

@@ -4,9 +4,6 @@ use Rattle.trace.proofs.Highest.{refused-high, passed-low}
 use Rattle.trace.proofs.cells_refusal.Statement.{statement}
 use Rattle.trace.proofs.cells_refusal.Tie as tie
 
-greatest-cell-requires : tie.Need-greatest-cell-requires
-greatest-cell-requires c κs = search needs
-
 returns : tie.Need-returns
 returns c = refused-high _ (c .before .greatest-cell .ensures) (c .if1 .taken)
 
@@ -14,4 +11,4 @@ returns-2 : tie.Need-returns-2
 returns-2 c = passed-low _ (c .before .greatest-cell .ensures) (c .if1 .left)
 
 pub cells-refusal-spec : {M : Type 1} → statement M
-cells-refusal-spec = tie.close (tie.spec greatest-cell-requires returns returns-2)
+cells-refusal-spec = tie.close (tie.spec (λ c κs. search needs) returns returns-2)

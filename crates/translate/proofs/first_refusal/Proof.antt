@@ -10,9 +10,6 @@ use Rattle.meaning.proofs.Accepted.{check-accepts, clear-well-formed}
 use Rattle.translate.proofs.first_refusal.Statement.{statement}
 use Rattle.translate.proofs.first_refusal.Tie as tie
 
-check-requires : tie.Need-check-requires
-check-requires c κs = search needs
-
 returns : tie.Need-returns
 unfolding checkAnswer
 returns c =
@@ -32,4 +29,4 @@ returns-2 c =
     ∙ sym (clear-skip (checkGrounds _ _) (starGrounds _) (clear-well-formed _ _ _ .1 (formed (c .before))))
 
 pub first-refusal-spec : {M : Type 1} → statement M
-first-refusal-spec = tie.close (tie.spec check-requires returns stars-refusal-requires returns-2)
+first-refusal-spec = tie.close (tie.spec (λ c κs. search needs) returns stars-refusal-requires returns-2)

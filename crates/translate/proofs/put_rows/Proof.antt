@@ -18,22 +18,10 @@ abbrev μ-loop : tie.MeasureT-loop
 loop-holds : tie.Need-loop-holds Inv-loop μ-loop
 loop-holds c = (omega arith, omega arith, put-none _ _)
 
-mul-put-row : tie.Need-mul-put-row Inv-loop μ-loop
-mul-put-row c = search needs
-
-array-copy-out-put-row : tie.Need-array-copy-out-put-row Inv-loop μ-loop
-array-copy-out-put-row c = search needs
-
 put-row-requires : tie.Need-put-row-requires Inv-loop μ-loop
 put-row-requires c κs =
     let at-loop = c .before .before .before in
     omega (arith, put-length (at-loop .loop .inv .2), at-loop .loop .inv .1)
-
-add-i : tie.Need-add-i Inv-loop μ-loop
-add-i c = search needs
-
-loop-less : tie.Need-loop-less Inv-loop μ-loop
-loop-less c = search needs
 
 loop-again : tie.Need-loop-again Inv-loop μ-loop
 loop-again c =
@@ -59,11 +47,11 @@ put-rows-spec =
     Inv-loop
     μ-loop
     loop-holds
-    mul-put-row
-    array-copy-out-put-row
+    (λ c. search needs)
+    (λ c. search needs)
     put-row-requires
-    add-i
-    loop-less
+    (λ c. search needs)
+    (λ c. search needs)
     loop-again
     same-length
     returns)

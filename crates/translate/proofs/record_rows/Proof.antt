@@ -24,35 +24,11 @@ small c =
     )
 
 -- ---- the calls and the result
-kind-at-requires : tie.Need-kind-at-requires
-kind-at-requires c κs = search needs
-
-field-a-requires : tie.Need-field-a-requires
-field-a-requires c κs = search needs
-
-field-b-requires : tie.Need-field-b-requires
-field-b-requires c κs = search needs
-
-element-copy-out-rows-of : tie.Need-element-copy-out-rows-of
-element-copy-out-rows-of c = search needs
-
-label-requires : tie.Need-label-requires
-label-requires c κs = search needs
-
 label-requires-2 : tie.Need-label-requires-2
 label-requires-2 c κs = let h = small (c .before .before) in (h .0, omega arith)
 
 label-requires-3 : tie.Need-label-requires-3
 label-requires-3 c κs = let h = small (c .before .before .before) in (h .0, omega arith)
-
-element-copy-out-cont-label : tie.Need-element-copy-out-cont-label
-element-copy-out-cont-label c = search needs
-
-cont-label-requires : tie.Need-cont-label-requires
-cont-label-requires c κs = search needs
-
-cast-rows-of : tie.Need-cast-rows-of
-cast-rows-of c = search needs
 
 rows-of-requires : tie.Need-rows-of-requires
 rows-of-requires c κs =
@@ -89,15 +65,15 @@ pub record-rows-spec : {M : Type 1} → statement M
 record-rows-spec =
     tie.close
     (tie.spec
-    kind-at-requires
-    field-a-requires
-    field-b-requires
-    element-copy-out-rows-of
-    label-requires
+    (λ c κs. search needs)
+    (λ c κs. search needs)
+    (λ c κs. search needs)
+    (λ c. search needs)
+    (λ c κs. search needs)
     label-requires-2
     label-requires-3
-    element-copy-out-cont-label
-    cont-label-requires
-    cast-rows-of
+    (λ c. search needs)
+    (λ c κs. search needs)
+    (λ c. search needs)
     rows-of-requires
     returns)

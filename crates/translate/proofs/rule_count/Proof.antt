@@ -33,14 +33,8 @@ more c =
 
 -- ---- the calls, the loop and the result
 
-record-count-requires : tie.Need-record-count-requires Inv-loop μ-loop
-record-count-requires c κs = search needs
-
 loop-holds : tie.Need-loop-holds Inv-loop μ-loop
 loop-holds c = (omega arith, tally-none _)
-
-kind-at-requires : tie.Need-kind-at-requires Inv-loop μ-loop
-kind-at-requires c κs = search needs
 
 element-copy-out-row-count : tie.Need-element-copy-out-row-count Inv-loop μ-loop
 element-copy-out-row-count c =
@@ -55,12 +49,6 @@ add-rules : tie.Need-add-rules Inv-loop μ-loop
 add-rules c =
     let l = c .before .before .before in
     omega (arith, more c, sum-few (start l .args .records .now) (l .before .loop .r + 1), before-end l, start l .pre .0 .formed .few)
-
-add-r : tie.Need-add-r Inv-loop μ-loop
-add-r c = search needs
-
-loop-less : tie.Need-loop-less Inv-loop μ-loop
-loop-less c = search needs
 
 loop-again : tie.Need-loop-again Inv-loop μ-loop
 loop-again c = (omega arith, more c)
@@ -78,13 +66,13 @@ rule-count-spec =
     (tie.spec
     Inv-loop
     μ-loop
-    record-count-requires
+    (λ c κs. search needs)
     loop-holds
-    kind-at-requires
+    (λ c κs. search needs)
     element-copy-out-row-count
     row-count-requires
     add-rules
-    add-r
-    loop-less
+    (λ c. search needs)
+    (λ c. search needs)
     loop-again
     returns)

@@ -34,9 +34,6 @@ number : (c : tie.After-rule-count)
 number c = c .rule-count .ensures ∙ sym (translation-counted _ _)
 
 -- ---- the calls and the returns
-first-refusal-requires : tie.Need-first-refusal-requires
-first-refusal-requires c κs = search needs
-
 returns : tie.Need-returns
 unfolding translateAnswer translateAfter
 returns c =
@@ -76,9 +73,6 @@ write-rules-requires c κs =
       rw (number (two .before)) at (two .if2 .left),
     )
 
-same-length : tie.Need-same-length
-same-length c = search needs
-
 returns-3 : tie.Need-returns-3
 unfolding translateAnswer translateAfter
 returns-3 c =
@@ -94,12 +88,12 @@ pub translate-spec : {M : Type 1} → statement M
 translate-spec =
     tie.close
     (tie.spec
-    first-refusal-requires
+    (λ c κs. search needs)
     returns
     find-contexts-requires
     rule-count-requires
     mul-if2
     returns-2
     write-rules-requires
-    same-length
+    (λ c. search needs)
     returns-3)

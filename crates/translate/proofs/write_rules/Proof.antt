@@ -39,21 +39,12 @@ all c =
     rw e at (c .before .loop .inv .1)
 
 -- ---- the loop
-record-count-requires : tie.Need-record-count-requires Inv-loop μ-loop
-record-count-requires c κs = search needs
-
 loop-holds : tie.Need-loop-holds Inv-loop μ-loop
 unfolding each
 loop-holds c = (omega arith, put-none _ _)
 
-record-rows-requires : tie.Need-record-rows-requires Inv-loop μ-loop
-record-rows-requires c κs = search needs
-
 kind-at-requires : tie.Need-kind-at-requires Inv-loop μ-loop
 kind-at-requires c κs = before-end (c .before)
-
-element-copy-out-row-count : tie.Need-element-copy-out-row-count Inv-loop μ-loop
-element-copy-out-row-count c = search needs
 
 row-count-requires : tie.Need-row-count-requires Inv-loop μ-loop
 row-count-requires c κs =
@@ -89,12 +80,6 @@ put-rows-requires c κs =
           (room-more (a .records .now) (a .atoms) (start (in-loop .before) .pre .2) r (before-end in-loop)),
     )
 
-add-r : tie.Need-add-r Inv-loop μ-loop
-add-r c = search needs
-
-loop-less : tie.Need-loop-less Inv-loop μ-loop
-loop-less c = search needs
-
 loop-again : tie.Need-loop-again Inv-loop μ-loop
 loop-again c =
     let put = c .before .before in
@@ -103,15 +88,6 @@ loop-again c =
     (omega arith, rw each-more more)
 
 -- ---- the last rule
-sub-label : tie.Need-sub-label Inv-loop μ-loop
-sub-label c = search needs
-
-label-requires : tie.Need-label-requires Inv-loop μ-loop
-label-requires c κs = search needs
-
-assert-row-requires : tie.Need-assert-row-requires Inv-loop μ-loop
-assert-row-requires c κs = search needs
-
 put-rows-requires-2 : tie.Need-put-rows-requires-2 Inv-loop μ-loop
 put-rows-requires-2 c κs =
     let done = c .before .before .before in
@@ -143,19 +119,19 @@ write-rules-spec =
     (tie.spec
     Inv-loop
     μ-loop
-    record-count-requires
+    (λ c κs. search needs)
     loop-holds
-    record-rows-requires
+    (λ c κs. search needs)
     kind-at-requires
-    element-copy-out-row-count
+    (λ c. search needs)
     row-count-requires
     put-rows-requires
-    add-r
-    loop-less
+    (λ c. search needs)
+    (λ c. search needs)
     loop-again
-    sub-label
-    label-requires
-    assert-row-requires
+    (λ c. search needs)
+    (λ c κs. search needs)
+    (λ c κs. search needs)
     put-rows-requires-2
     same-length
     returns)

@@ -24,9 +24,6 @@ at c =
     (number, omega (arith, start c .pre .formed .some), c .row-start .ensures)
 
 -- ---- the calls and the returns
-record-count-requires : tie.Need-record-count-requires
-record-count-requires c κs = search needs
-
 row-start-requires : tie.Need-row-start-requires
 row-start-requires c κs =
     let s = c .before .before .before .before .before in
@@ -63,9 +60,6 @@ slice-read-result c =
     let v = c .before .before .before .before .value-formula .ensures in
     first-within (start (cleared .before) .pre) number one clear v _ (c .before .row-start2 .ensures)
 
-same-length : tie.Need-same-length
-same-length c = search needs
-
 returns : tie.Need-returns
 returns c =
     let cleared = c .before .before .before .before .before .before .before .before in
@@ -80,7 +74,7 @@ pub fill-spec : {M : Type 1} → statement M
 fill-spec =
     tie.close
     (tie.spec
-    record-count-requires
+    (λ c κs. search needs)
     row-start-requires
     put-constant-requires
     sub-value-formula
@@ -88,5 +82,5 @@ fill-spec =
     sub-row-start
     row-start-requires-2
     slice-read-result
-    same-length
+    (λ c. search needs)
     returns)

@@ -34,14 +34,8 @@ low : (c : tie.Else4)
 low c = sym (c .before .cells-refusal .ensures) ∙ c .if4 .left
 
 -- ---- the calls and the returns
-wrong-length-requires : tie.Need-wrong-length-requires
-wrong-length-requires c κs = search needs
-
 returns : tie.Need-returns
 returns c = refused-1 _ _ _ _ _ (sym (c .before .wrong-length .ensures) ∙ c .if1 .taken)
-
-wrong-size-requires : tie.Need-wrong-size-requires
-wrong-size-requires c κs = search needs
 
 returns-2 : tie.Need-returns-2
 returns-2 c = refused-8 _ _ _ _ _ (right (c .before .before)) (sym (c .before .wrong-size .ensures) ∙ c .if2 .taken)
@@ -54,18 +48,12 @@ returns-3 c =
     let two = c .before .before in
     refused-tree _ _ _ _ _ (right (two .before .before)) (fits two) (c .before .tree-refusal .ensures) (c .if3 .taken)
 
-cells-refusal-requires : tie.Need-cells-refusal-requires
-cells-refusal-requires c κs = search needs
-
 returns-4 : tie.Need-returns-4
 returns-4 c =
     let three = c .before .before in
     let two = three .before .before in
     refused-cells _ _ _ _ _ (right (two .before .before)) (fits two) (tree three)
     (c .before .cells-refusal .ensures) (c .if4 .taken)
-
-record-count-requires : tie.Need-record-count-requires
-record-count-requires c κs = search needs
 
 row-start-requires : tie.Need-row-start-requires
 row-start-requires c κs =
@@ -94,15 +82,15 @@ pub first-refusal-spec : {M : Type 1} → statement M
 first-refusal-spec =
     tie.close
     (tie.spec
-    wrong-length-requires
+    (λ c κs. search needs)
     returns
-    wrong-size-requires
+    (λ c κs. search needs)
     returns-2
     tree-refusal-requires
     returns-3
-    cells-refusal-requires
+    (λ c κs. search needs)
     returns-4
-    record-count-requires
+    (λ c κs. search needs)
     row-start-requires
     returns-5
     returns-6)

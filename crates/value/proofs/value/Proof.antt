@@ -7,9 +7,6 @@ use Rattle.value.proofs.Grounds.{legal}
 use Rattle.value.proofs.value.Statement.{statement}
 use Rattle.value.proofs.value.Tie as tie
 
-first-refusal-requires : tie.Need-first-refusal-requires
-first-refusal-requires c κs = search needs
-
 returns : tie.Need-returns
 unfolding valueAnswer valueAfter
 returns c =
@@ -19,9 +16,6 @@ returns c =
 
 fill-requires : tie.Need-fill-requires
 fill-requires c κs = legal _ _ _ _ _ (sym (c .before .before .first-refusal .ensures) ∙ c .before .if1 .left)
-
-same-length : tie.Need-same-length
-same-length c = search needs
 
 returns-2 : tie.Need-returns-2
 unfolding valueAnswer valueAfter
@@ -34,4 +28,4 @@ returns-2 c =
 
 pub value-spec : {M : Type 1} → statement M
 value-spec =
-    tie.close (tie.spec first-refusal-requires returns fill-requires same-length returns-2)
+    tie.close (tie.spec (λ c κs. search needs) returns fill-requires (λ c. search needs) returns-2)

@@ -33,12 +33,6 @@ returns-5 c =
     (sym (by-child _ _ _ _ _ (omega arith) (omega arith) ∙ rw (le-leb _ _ (c .if5 .taken))))
     (λ z. omega arith)
 
-kind-at-requires : tie.Need-kind-at-requires
-kind-at-requires c κs = search needs
-
-sort-of-requires : tie.Need-sort-of-requires
-sort-of-requires c κs = search needs
-
 returns-6 : tie.Need-returns-6
 returns-6 c =
     let d = c .before .before .before in
@@ -46,15 +40,6 @@ returns-6 c =
     kept (d .before .before .before .before .pre .3)
     (sym (by-child _ _ _ _ _ (omega arith) (omega arith) ∙ rw (lt-leb _ _ (d .if5 .left), other)))
     (λ z. omega arith)
-
-element-copy-out-one-more : tie.Need-element-copy-out-one-more
-element-copy-out-one-more c = search needs
-
-one-more-requires : tie.Need-one-more-requires
-one-more-requires c κs = search needs
-
-element-write-counts : tie.Need-element-write-counts
-element-write-counts c = search needs
 
 returns-7 : tie.Need-returns-7
 returns-7 c =
@@ -74,10 +59,10 @@ field-refusal-spec =
     returns-3
     returns-4
     returns-5
-    kind-at-requires
-    sort-of-requires
+    (λ c κs. search needs)
+    (λ c κs. search needs)
     returns-6
-    element-copy-out-one-more
-    one-more-requires
-    element-write-counts
+    (λ c. search needs)
+    (λ c κs. search needs)
+    (λ c. search needs)
     returns-7)

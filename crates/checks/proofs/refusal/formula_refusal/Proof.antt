@@ -7,9 +7,6 @@ use borrow.Author.Needs.{needs}
 use Rattle.checks.proofs.refusal.formula_refusal.Statement.{statement}
 use Rattle.checks.proofs.refusal.formula_refusal.Tie as tie
 
-wrong-length-requires : tie.Need-wrong-length-requires
-wrong-length-requires c κs = search needs
-
 returns : tie.Need-returns
 unfolding firstOf ground1
 returns c = rw (sym (c .before .wrong-length .ensures) ∙ c .if1 .taken)
@@ -17,9 +14,6 @@ returns c = rw (sym (c .before .wrong-length .ensures) ∙ c .if1 .taken)
 -- The length is right.
 right : (c : tie.Else1) → ground1 (c .before .before .before .args .s .now) .applies ≡ false
 right c = sym (c .before .wrong-length .ensures) ∙ c .if1 .left
-
-too-many-requires : tie.Need-too-many-requires
-too-many-requires c κs = search needs
 
 returns-2 : tie.Need-returns-2
 unfolding firstOf ground8
@@ -38,9 +32,9 @@ pub formula-refusal-spec : {M : Type 1} → statement M
 formula-refusal-spec =
     tie.close
     (tie.spec
-    wrong-length-requires
+    (λ c κs. search needs)
     returns
-    too-many-requires
+    (λ c κs. search needs)
     returns-2
     tree-refusal-requires
     returns-3)

@@ -16,28 +16,13 @@ Inv-loop s counts last q₀ q = (q ≤ last) × Clear (each q (λ i. ground7 s i
 abbrev μ-loop : tie.MeasureT-loop
 μ-loop s counts last q₀ q = last - q
 
-record-count-requires : tie.Need-record-count-requires Inv-loop μ-loop
-record-count-requires c κs = search needs
-
-sub-last : tie.Need-sub-last Inv-loop μ-loop
-sub-last c = search needs
-
 loop-holds : tie.Need-loop-holds Inv-loop μ-loop
 loop-holds c = (search needs, scan-none _)
-
-element-copy-out-if1 : tie.Need-element-copy-out-if1 Inv-loop μ-loop
-element-copy-out-if1 c = search needs
 
 returns : tie.Need-returns Inv-loop μ-loop
 returns c =
     let found = not-single (c .before .before .before .before .before .before .pre .2) (omega arith) (c .if1 .taken) in
     scan-found _ _ _ (omega arith) (c .before .before .before .loop .inv .1) found (λ z. omega arith)
-
-add-q : tie.Need-add-q Inv-loop μ-loop
-add-q c = search needs
-
-loop-less : tie.Need-loop-less Inv-loop μ-loop
-loop-less c = search needs
 
 loop-again : tie.Need-loop-again Inv-loop μ-loop
 loop-again c =
@@ -53,12 +38,12 @@ places-refusal-spec =
     (tie.spec
     Inv-loop
     μ-loop
-    record-count-requires
-    sub-last
+    (λ c κs. search needs)
+    (λ c. search needs)
     loop-holds
-    element-copy-out-if1
+    (λ c. search needs)
     returns
-    add-q
-    loop-less
+    (λ c. search needs)
+    (λ c. search needs)
     loop-again
     returns-2)

@@ -14,12 +14,6 @@ use Rattle.checks.proofs.Counting.{more}
 use Rattle.checks.proofs.refusal.record_refusal.Statement.{statement}
 use Rattle.checks.proofs.refusal.record_refusal.Tie as tie
 
-kind-at-requires : tie.Need-kind-at-requires
-kind-at-requires c κs = search needs
-
-takes-requires : tie.Need-takes-requires
-takes-requires c κs = search needs
-
 kind-test : (c : tie.After-takes)
     → let a = c .before .before .before .args in
     not (c .takes .result) ≡ not (known (a .full) (kindAt (now (a .s)) (a .r)))
@@ -31,9 +25,6 @@ returns c = record {
   places = λ z. absurd (omega arith);
 }
 
-zero-at-requires : tie.Need-zero-at-requires
-zero-at-requires c κs = search needs
-
 returns-2 : tie.Need-returns-2
 returns-2 c =
     let kind = c .before .before in
@@ -42,18 +33,6 @@ returns-2 c =
       refusal = sym (by-fields _ _ _ _ ∙ rw (sym (kind-test (kind .before)) ∙ kind .if1 .left, stray));
       places = λ z. absurd (omega arith);
     }
-
-use-a-requires : tie.Need-use-a-requires
-use-a-requires c κs = search needs
-
-use-b-requires : tie.Need-use-b-requires
-use-b-requires c κs = search needs
-
-field-a-requires : tie.Need-field-a-requires
-field-a-requires c κs = search needs
-
-field-b-requires : tie.Need-field-b-requires
-field-b-requires c κs = search needs
 
 abbrev start : tie.After-field-b → tie.Start
 start c = c .before .before .before .before .before .before .before .before .before .before
@@ -128,15 +107,15 @@ pub record-refusal-spec : {M : Type 1} → statement M
 record-refusal-spec =
     tie.close
     (tie.spec
-    kind-at-requires
-    takes-requires
+    (λ c κs. search needs)
+    (λ c κs. search needs)
     returns
-    zero-at-requires
+    (λ c κs. search needs)
     returns-2
-    use-a-requires
-    use-b-requires
-    field-a-requires
-    field-b-requires
+    (λ c κs. search needs)
+    (λ c κs. search needs)
+    (λ c κs. search needs)
+    (λ c κs. search needs)
     field-refusal-requires
     field-refusal-requires-2
     returns-3

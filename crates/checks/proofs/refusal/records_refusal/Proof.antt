@@ -17,9 +17,6 @@ Inv-loop s full atoms counts₀ n r₀ counts r = (r ≤ n) × Clear (each r (re
 abbrev μ-loop : tie.MeasureT-loop
 μ-loop s full atoms counts₀ n r₀ counts r = n - r
 
-record-count-requires : tie.Need-record-count-requires Inv-loop μ-loop
-record-count-requires c κs = search needs
-
 loop-holds : tie.Need-loop-holds Inv-loop μ-loop
 loop-holds c = (search needs, scan-none _, c .before .before .pre .1)
 
@@ -33,12 +30,6 @@ returns c =
       refusal = scan-found _ _ _ (omega arith) (c .before .before .before .before .loop .inv .1) found (c .if1 .taken);
       places = λ z. absurd (c .if1 .taken z);
     }
-
-add-r : tie.Need-add-r Inv-loop μ-loop
-add-r c = search needs
-
-loop-less : tie.Need-loop-less Inv-loop μ-loop
-loop-less c = search needs
 
 loop-again : tie.Need-loop-again Inv-loop μ-loop
 loop-again c =
@@ -64,11 +55,11 @@ records-refusal-spec =
     (tie.spec
     Inv-loop
     μ-loop
-    record-count-requires
+    (λ c κs. search needs)
     loop-holds
     record-refusal-requires
     returns
-    add-r
-    loop-less
+    (λ c. search needs)
+    (λ c. search needs)
     loop-again
     returns-2)

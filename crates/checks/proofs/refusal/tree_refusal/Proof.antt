@@ -12,18 +12,6 @@ records-refusal-requires c κs = (c .before .before .pre .1, none)
 returns : tie.Need-returns
 returns c = tree-record _ _ _ (c .before .records-refusal .ensures .refusal) (c .if1 .taken)
 
-record-count-requires : tie.Need-record-count-requires
-record-count-requires c κs = search needs
-
-sub-last : tie.Need-sub-last
-sub-last c = search needs
-
-kind-at-requires : tie.Need-kind-at-requires
-kind-at-requires c κs = search needs
-
-sort-of-requires : tie.Need-sort-of-requires
-sort-of-requires c κs = search needs
-
 -- What is known once the last record's sort is read.
 behind : (c : tie.After-sort-of)
     → let a = c .before .before .before .before .before .before .before .args in
@@ -54,10 +42,10 @@ tree-refusal-spec =
     (tie.spec
     records-refusal-requires
     returns
-    record-count-requires
-    sub-last
-    kind-at-requires
-    sort-of-requires
+    (λ c κs. search needs)
+    (λ c. search needs)
+    (λ c κs. search needs)
+    (λ c κs. search needs)
     returns-2
     places-refusal-requires
     returns-3)

@@ -13,12 +13,9 @@ returns-2 : tie.Need-returns-2
 unfolding ground1
 returns-2 c = simp (ne-eqb _ _ (c .before .if1 .left), ne-eqb _ _ (c .if2 .taken))
 
-mul-result : tie.Need-mul-result
-mul-result c = search needs
-
 returns-3 : tie.Need-returns-3
 unfolding ground1
 returns-3 c = simp (ne-eqb _ _ (c .before .if1 .left), eq-eqb _ _ (c .if2 .left))
 
 pub wrong-length-spec : {M : Type 1} → statement M
-wrong-length-spec = tie.close (tie.spec returns returns-2 mul-result returns-3)
+wrong-length-spec = tie.close (tie.spec returns returns-2 (λ c. search needs) returns-3)

@@ -5,15 +5,9 @@ use Rattle.expand.specs.Steps.{oneChild, noChild, atomStep, ownA}
 use Rattle.expand.proofs.steps.own_a.Statement.{statement}
 use Rattle.expand.proofs.steps.own_a.Tie as tie
 
-one-less-requires : tie.Need-one-less-requires
-one-less-requires c κs = search needs
-
 returns : tie.Need-returns
 unfolding ownA
 returns c = rw (lt-ltb _ oneChild (c .before .if1 .taken)) (c .one-less .ensures)
-
-one-less-requires-2 : tie.Need-one-less-requires-2
-one-less-requires-2 c κs = search needs
 
 returns-2 : tie.Need-returns-2
 unfolding ownA
@@ -36,4 +30,4 @@ returns-4 c =
 pub own-a-spec : {M : Type 1} → statement M
 own-a-spec =
     tie.close
-    (tie.spec one-less-requires returns one-less-requires-2 returns-2 returns-3 returns-4)
+    (tie.spec (λ c κs. search needs) returns (λ c κs. search needs) returns-2 returns-3 returns-4)

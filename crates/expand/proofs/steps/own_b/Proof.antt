@@ -5,9 +5,6 @@ use Rattle.expand.specs.Steps.{oneChild, ownB}
 use Rattle.expand.proofs.steps.own_b.Statement.{statement}
 use Rattle.expand.proofs.steps.own_b.Tie as tie
 
-one-less-requires : tie.Need-one-less-requires
-one-less-requires c κs = search needs
-
 returns : tie.Need-returns
 unfolding ownB
 returns c = rw (lt-ltb _ oneChild (c .before .if1 .taken)) (c .one-less .ensures)
@@ -17,4 +14,4 @@ unfolding ownB
 returns-2 c = rw (le-ltb _ oneChild (c .if1 .left))
 
 pub own-b-spec : {M : Type 1} → statement M
-own-b-spec = tie.close (tie.spec one-less-requires returns returns-2)
+own-b-spec = tie.close (tie.spec (λ c κs. search needs) returns returns-2)

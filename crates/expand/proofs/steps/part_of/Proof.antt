@@ -5,19 +5,13 @@ use Rattle.expand.specs.Steps.{partA, partOf}
 use Rattle.expand.proofs.steps.part_of.Statement.{statement}
 use Rattle.expand.proofs.steps.part_of.Tie as tie
 
-field-a-requires : tie.Need-field-a-requires
-field-a-requires c κs = search needs
-
 returns : tie.Need-returns
 unfolding partOf
 returns c = rw (eq-eqb _ partA (c .before .if1 .taken)) (c .field-a .ensures)
-
-field-b-requires : tie.Need-field-b-requires
-field-b-requires c κs = search needs
 
 returns-2 : tie.Need-returns-2
 unfolding partOf
 returns-2 c = rw (ne-eqb _ partA (c .before .if1 .left)) (c .field-b .ensures)
 
 pub part-of-spec : {M : Type 1} → statement M
-part-of-spec = tie.close (tie.spec field-a-requires returns field-b-requires returns-2)
+part-of-spec = tie.close (tie.spec (λ c κs. search needs) returns (λ c κs. search needs) returns-2)

@@ -19,20 +19,11 @@ abbrev μ-loop : tie.MeasureT-loop
 loop-holds : tie.Need-loop-holds Inv-loop μ-loop
 loop-holds c = (search needs, scan-none _)
 
-is-bad-requires : tie.Need-is-bad-requires Inv-loop μ-loop
-is-bad-requires c κs = search needs
-
 returns : tie.Need-returns Inv-loop μ-loop
 unfolding firstOf ground13
 returns c =
     let bad = sym (c .before .is-bad .ensures) ∙ c .if1 .taken in
     scan-found _ _ _ (omega arith) (c .before .before .before .loop .inv .1) (simp bad) (λ z. omega arith)
-
-add-i : tie.Need-add-i Inv-loop μ-loop
-add-i c = search needs
-
-loop-less : tie.Need-loop-less Inv-loop μ-loop
-loop-less c = search needs
 
 loop-again : tie.Need-loop-again Inv-loop μ-loop
 unfolding ground13
@@ -51,9 +42,9 @@ each-refusal-spec =
     Inv-loop
     μ-loop
     loop-holds
-    is-bad-requires
+    (λ c κs. search needs)
     returns
-    add-i
-    loop-less
+    (λ c. search needs)
+    (λ c. search needs)
     loop-again
     returns-2)

@@ -38,89 +38,20 @@ abbrev past-5 : tie.Else5 → Past 5
 past-5 c =
     let p = past-4 (c .before .before .before) in (p .0, pass _ _ (p .1) (c .before .is-bad-literal4 .ensures) (c .if5 .left))
 
-mul-at : tie.Need-mul-at
-mul-at c = search needs
-
-mul-place : tie.Need-mul-place
-mul-place c = search needs
-
-shared-slice-read-place : tie.Need-shared-slice-read-place
-shared-slice-read-place c = search needs
-
 returns : tie.Need-returns
 returns c = stop _ _ (test-by-test _ _ _) refl (lt-ltb _ _ (c .if1 .taken))
-
-add-is-bad-literal : tie.Need-add-is-bad-literal
-add-is-bad-literal c = search needs
-
-mul-is-bad-literal : tie.Need-mul-is-bad-literal
-mul-is-bad-literal c = search needs
-
-shared-slice-read-is-bad-literal : tie.Need-shared-slice-read-is-bad-literal
-shared-slice-read-is-bad-literal c = search needs
-
-is-bad-literal-requires : tie.Need-is-bad-literal-requires
-is-bad-literal-requires c κs = search needs
 
 returns-2 : tie.Need-returns-2
 returns-2 c = stop _ _ (past-1 (c .before .before .before) .1) (c .before .is-bad-literal .ensures) (c .if2 .taken)
 
-add-is-bad-literal-2 : tie.Need-add-is-bad-literal-2
-add-is-bad-literal-2 c = search needs
-
-mul-is-bad-literal-2 : tie.Need-mul-is-bad-literal-2
-mul-is-bad-literal-2 c = search needs
-
-shared-slice-read-is-bad-literal-2 : tie.Need-shared-slice-read-is-bad-literal-2
-shared-slice-read-is-bad-literal-2 c = search needs
-
-is-bad-literal-requires-2 : tie.Need-is-bad-literal-requires-2
-is-bad-literal-requires-2 c κs = search needs
-
 returns-3 : tie.Need-returns-3
 returns-3 c = stop _ _ (past-2 (c .before .before .before) .1) (c .before .is-bad-literal2 .ensures) (c .if3 .taken)
-
-add-is-bad-literal-3 : tie.Need-add-is-bad-literal-3
-add-is-bad-literal-3 c = search needs
-
-mul-is-bad-literal-3 : tie.Need-mul-is-bad-literal-3
-mul-is-bad-literal-3 c = search needs
-
-shared-slice-read-is-bad-literal-3 : tie.Need-shared-slice-read-is-bad-literal-3
-shared-slice-read-is-bad-literal-3 c = search needs
-
-is-bad-literal-requires-3 : tie.Need-is-bad-literal-requires-3
-is-bad-literal-requires-3 c κs = search needs
 
 returns-4 : tie.Need-returns-4
 returns-4 c = stop _ _ (past-3 (c .before .before .before) .1) (c .before .is-bad-literal3 .ensures) (c .if4 .taken)
 
-add-is-bad-literal-4 : tie.Need-add-is-bad-literal-4
-add-is-bad-literal-4 c = search needs
-
-mul-is-bad-literal-4 : tie.Need-mul-is-bad-literal-4
-mul-is-bad-literal-4 c = search needs
-
-shared-slice-read-is-bad-literal-4 : tie.Need-shared-slice-read-is-bad-literal-4
-shared-slice-read-is-bad-literal-4 c = search needs
-
-is-bad-literal-requires-4 : tie.Need-is-bad-literal-requires-4
-is-bad-literal-requires-4 c κs = search needs
-
 returns-5 : tie.Need-returns-5
 returns-5 c = stop _ _ (past-4 (c .before .before .before) .1) (c .before .is-bad-literal4 .ensures) (c .if5 .taken)
-
-add-is-bad-literal-5 : tie.Need-add-is-bad-literal-5
-add-is-bad-literal-5 c = search needs
-
-mul-is-bad-literal-5 : tie.Need-mul-is-bad-literal-5
-mul-is-bad-literal-5 c = search needs
-
-shared-slice-read-is-bad-literal-5 : tie.Need-shared-slice-read-is-bad-literal-5
-shared-slice-read-is-bad-literal-5 c = search needs
-
-is-bad-literal-requires-5 : tie.Need-is-bad-literal-requires-5
-is-bad-literal-requires-5 c κs = search needs
 
 returns-6 : tie.Need-returns-6
 unfolding some
@@ -130,32 +61,32 @@ pub is-bad-spec : {M : Type 1} → statement M
 is-bad-spec =
     tie.close
     (tie.spec
-    mul-at
-    mul-place
-    shared-slice-read-place
+    (λ c. search needs)
+    (λ c. search needs)
+    (λ c. search needs)
     returns
-    add-is-bad-literal
-    mul-is-bad-literal
-    shared-slice-read-is-bad-literal
-    is-bad-literal-requires
+    (λ c. search needs)
+    (λ c. search needs)
+    (λ c. search needs)
+    (λ c κs. search needs)
     returns-2
-    add-is-bad-literal-2
-    mul-is-bad-literal-2
-    shared-slice-read-is-bad-literal-2
-    is-bad-literal-requires-2
+    (λ c. search needs)
+    (λ c. search needs)
+    (λ c. search needs)
+    (λ c κs. search needs)
     returns-3
-    add-is-bad-literal-3
-    mul-is-bad-literal-3
-    shared-slice-read-is-bad-literal-3
-    is-bad-literal-requires-3
+    (λ c. search needs)
+    (λ c. search needs)
+    (λ c. search needs)
+    (λ c κs. search needs)
     returns-4
-    add-is-bad-literal-4
-    mul-is-bad-literal-4
-    shared-slice-read-is-bad-literal-4
-    is-bad-literal-requires-4
+    (λ c. search needs)
+    (λ c. search needs)
+    (λ c. search needs)
+    (λ c κs. search needs)
     returns-5
-    add-is-bad-literal-5
-    mul-is-bad-literal-5
-    shared-slice-read-is-bad-literal-5
-    is-bad-literal-requires-5
+    (λ c. search needs)
+    (λ c. search needs)
+    (λ c. search needs)
+    (λ c κs. search needs)
     returns-6)

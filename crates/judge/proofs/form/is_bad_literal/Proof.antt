@@ -6,18 +6,9 @@ use Rattle.meaning.specs.Refusal.{badLiteral}
 use Rattle.judge.proofs.form.is_bad_literal.Statement.{statement}
 use Rattle.judge.proofs.form.is_bad_literal.Tie as tie
 
-add-if1 : tie.Need-add-if1
-add-if1 c = search needs
-
-symbol-requires : tie.Need-symbol-requires
-symbol-requires c κs = search needs
-
 returns : tie.Need-returns
 unfolding badLiteral
 returns c = simp (sym (c .before .symbol .ensures), le-leb _ _ (c .if1 .taken))
-
-is-previous-requires : tie.Need-is-previous-requires
-is-previous-requires c κs = search needs
 
 returns-2 : tie.Need-returns-2
 unfolding badLiteral
@@ -39,4 +30,4 @@ returns-3 c =
 
 pub is-bad-literal-spec : {M : Type 1} → statement M
 is-bad-literal-spec =
-    tie.close (tie.spec add-if1 symbol-requires returns is-previous-requires returns-2 returns-3)
+    tie.close (tie.spec (λ c. search needs) (λ c κs. search needs) returns (λ c κs. search needs) returns-2 returns-3)

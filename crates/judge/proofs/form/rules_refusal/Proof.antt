@@ -9,19 +9,13 @@ returns : tie.Need-returns
 unfolding firstOf ground13-length
 returns c = simp (ne-eqb _ _ (c .if1 .taken))
 
-mul-if2 : tie.Need-mul-if2
-mul-if2 c = search needs
-
 returns-2 : tie.Need-returns-2
 unfolding firstOf ground13-length
 returns-2 c = simp (eq-eqb _ _ (c .before .if1 .left), lt-ltb _ _ (c .if2 .taken))
-
-each-refusal-requires : tie.Need-each-refusal-requires
-each-refusal-requires c κs = search needs
 
 returns-3 : tie.Need-returns-3
 unfolding firstOf ground13-length
 returns-3 c = simp (eq-eqb _ _ (c .before .before .if1 .left), le-ltb _ _ (c .before .if2 .left)) (c .each-refusal .ensures)
 
 pub rules-refusal-spec : {M : Type 1} → statement M
-rules-refusal-spec = tie.close (tie.spec returns mul-if2 returns-2 each-refusal-requires returns-3)
+rules-refusal-spec = tie.close (tie.spec returns (λ c. search needs) returns-2 (λ c κs. search needs) returns-3)

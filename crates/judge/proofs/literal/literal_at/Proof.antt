@@ -5,15 +5,6 @@ use Rattle.meaning.specs.Rule.{literal}
 use Rattle.judge.proofs.literal.literal_at.Statement.{statement}
 use Rattle.judge.proofs.literal.literal_at.Tie as tie
 
-plain-at-requires : tie.Need-plain-at-requires
-plain-at-requires c κs = search needs
-
-is-negated-requires : tie.Need-is-negated-requires
-is-negated-requires c κs = search needs
-
-negation-requires : tie.Need-negation-requires
-negation-requires c κs = search needs
-
 returns : tie.Need-returns
 unfolding literal
 returns c = rw (sym (c .before .before .is-negated .ensures) ∙ c .before .if1 .taken) (cc)
@@ -24,4 +15,4 @@ returns-2 c = rw (sym (c .before .is-negated .ensures) ∙ c .if1 .left) (cc)
 
 pub literal-at-spec : {M : Type 1} → statement M
 literal-at-spec =
-    tie.close (tie.spec plain-at-requires is-negated-requires negation-requires returns returns-2)
+    tie.close (tie.spec (λ c κs. search needs) (λ c κs. search needs) (λ c κs. search needs) returns returns-2)

@@ -9,9 +9,6 @@ returns : tie.Need-returns
 unfolding startOf
 returns c = rw (eq-eqb _ _ (c .if1 .taken))
 
-sub-result : tie.Need-sub-result
-sub-result c = search needs
-
 returns-2 : tie.Need-returns-2
 unfolding startOf
 returns-2 c = rw (eq-eqb _ _ (c .if2 .taken), ne-eqb _ _ (c .before .if1 .left))
@@ -21,4 +18,4 @@ unfolding startOf
 returns-3 c = rw (ne-eqb _ _ (c .if2 .left), ne-eqb _ _ (c .before .if1 .left))
 
 pub start-of-spec : {M : Type 1} → statement M
-start-of-spec = tie.close (tie.spec returns sub-result returns-2 returns-3)
+start-of-spec = tie.close (tie.spec returns (λ c. search needs) returns-2 returns-3)

@@ -26,9 +26,6 @@ returns-2 c = rw (c .if2 .taken)
 mul-result : tie.Need-mul-result
 mul-result c = let h = within c in omega arith
 
-sub-result : tie.Need-sub-result
-sub-result c = search needs
-
 add-result : tie.Need-add-result
 add-result c = let h = within c in omega arith
 
@@ -45,7 +42,7 @@ symbol-at-spec =
     returns
     returns-2
     mul-result
-    sub-result
+    (λ c. search needs)
     add-result
     shared-slice-read-result
     returns-3)

@@ -5,9 +5,6 @@ use Rattle.squares.specs.Cells.{besideOf}
 use Rattle.squares.proofs.square.beside.Statement.{statement}
 use Rattle.squares.proofs.square.beside.Tie as tie
 
-add-result : tie.Need-add-result
-add-result c = search needs
-
 returns : tie.Need-returns
 unfolding besideOf
 returns c = rw (eq-eqb _ _ (c .if1 .taken))
@@ -16,12 +13,9 @@ returns-2 : tie.Need-returns-2
 unfolding besideOf
 returns-2 c = rw (ne-eqb _ _ (c .before .if1 .left), eq-eqb _ _ (c .if2 .taken))
 
-sub-result : tie.Need-sub-result
-sub-result c = search needs
-
 returns-3 : tie.Need-returns-3
 unfolding besideOf
 returns-3 c = rw (ne-eqb _ _ (c .before .if1 .left), ne-eqb _ _ (c .if2 .left))
 
 pub beside-spec : {M : Type 1} → statement M
-beside-spec = tie.close (tie.spec add-result returns returns-2 sub-result returns-3)
+beside-spec = tie.close (tie.spec (λ c. search needs) returns returns-2 (λ c. search needs) returns-3)

@@ -14,24 +14,6 @@ Inv-loop s₀ table start l k₀ s k = Following (capped (rowAt table start) (at
 abbrev μ-loop : tie.MeasureT-loop
 μ-loop s₀ table start l k₀ s k = l - k
 
-loop-holds : tie.Need-loop-holds Inv-loop μ-loop
-loop-holds c = search needs
-
-add-cap-row : tie.Need-add-cap-row Inv-loop μ-loop
-add-cap-row c = search needs
-
-shared-slice-read-cap-row : tie.Need-shared-slice-read-cap-row Inv-loop μ-loop
-shared-slice-read-cap-row c = search needs
-
-cap-row-requires : tie.Need-cap-row-requires Inv-loop μ-loop
-cap-row-requires c κs = search needs
-
-add-k : tie.Need-add-k Inv-loop μ-loop
-add-k c = search needs
-
-loop-less : tie.Need-loop-less Inv-loop μ-loop
-loop-less c = search needs
-
 loop-again : tie.Need-loop-again Inv-loop μ-loop
 loop-again c =
     let turn = c .before .before .before .before .loop in
@@ -46,11 +28,11 @@ cap-spec =
     (tie.spec
     Inv-loop
     μ-loop
-    loop-holds
-    add-cap-row
-    shared-slice-read-cap-row
-    cap-row-requires
-    add-k
-    loop-less
+    (λ c. search needs)
+    (λ c. search needs)
+    (λ c. search needs)
+    (λ c κs. search needs)
+    (λ c. search needs)
+    (λ c. search needs)
     loop-again
     returns)

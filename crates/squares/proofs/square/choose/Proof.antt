@@ -18,24 +18,6 @@ abbrev μ-loop : tie.MeasureT-loop
 loop-holds : tie.Need-loop-holds Inv-loop μ-loop
 loop-holds c = (omega arith, stored-none)
 
-element-copy-out-greatest : tie.Need-element-copy-out-greatest Inv-loop μ-loop
-element-copy-out-greatest c = search needs
-
-element-copy-out-greatest-2 : tie.Need-element-copy-out-greatest-2 Inv-loop μ-loop
-element-copy-out-greatest-2 c = search needs
-
-greatest-requires : tie.Need-greatest-requires Inv-loop μ-loop
-greatest-requires c κs = search needs
-
-element-write-s : tie.Need-element-write-s Inv-loop μ-loop
-element-write-s c = search needs
-
-add-i : tie.Need-add-i Inv-loop μ-loop
-add-i c = search needs
-
-loop-less : tie.Need-loop-less Inv-loop μ-loop
-loop-less c = search needs
-
 loop-again : tie.Need-loop-again Inv-loop μ-loop
 loop-again c =
     let turn = c .before .before .before .before .loop in
@@ -55,11 +37,11 @@ choose-spec =
     Inv-loop
     μ-loop
     loop-holds
-    element-copy-out-greatest
-    element-copy-out-greatest-2
-    greatest-requires
-    element-write-s
-    add-i
-    loop-less
+    (λ c. search needs)
+    (λ c. search needs)
+    (λ c κs. search needs)
+    (λ c. search needs)
+    (λ c. search needs)
+    (λ c. search needs)
     loop-again
     returns)

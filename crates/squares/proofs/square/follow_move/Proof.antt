@@ -17,26 +17,14 @@ Inv-loop kind s₀ l d k₀ s k = Shifting l (sequenceSquare l (at s₀) (moveSq
 abbrev μ-loop : tie.MeasureT-loop
 μ-loop kind s₀ l d k₀ s k = l - k
 
-shift-of-requires : tie.Need-shift-of-requires Inv-loop μ-loop
-shift-of-requires c κs = search needs
-
 loop-holds : tie.Need-loop-holds Inv-loop μ-loop
 loop-holds c = shifting-none (c .before .pre .1)
-
-padded-row-requires : tie.Need-padded-row-requires Inv-loop μ-loop
-padded-row-requires c κs = search needs
 
 put-from-requires : tie.Need-put-from-requires Inv-loop μ-loop
 put-from-requires c κs =
     let turn = c .before .before .before .before .before in
     let start = turn .before in
     (omega arith, omega (arith, start .shift-of .ensures, shift-bound (start .before .args .kind)), turn .loop .inv .size)
-
-add-k : tie.Need-add-k Inv-loop μ-loop
-add-k c = search needs
-
-loop-less : tie.Need-loop-less Inv-loop μ-loop
-loop-less c = search needs
 
 loop-again : tie.Need-loop-again Inv-loop μ-loop
 loop-again c =
@@ -60,11 +48,11 @@ follow-move-spec =
     (tie.spec
     Inv-loop
     μ-loop
-    shift-of-requires
+    (λ c κs. search needs)
     loop-holds
-    padded-row-requires
+    (λ c κs. search needs)
     put-from-requires
-    add-k
-    loop-less
+    (λ c. search needs)
+    (λ c. search needs)
     loop-again
     returns)

@@ -8,12 +8,6 @@ use borrow.Author.Needs.{needs}
 use Rattle.squares.proofs.square.join.Statement.{statement}
 use Rattle.squares.proofs.square.join.Tie as tie
 
-choose-requires : tie.Need-choose-requires
-choose-requires c κs = search needs
-
-follow-requires : tie.Need-follow-requires
-follow-requires c κs = search needs
-
 returns : tie.Need-returns
 unfolding joinOf
 returns c =
@@ -57,10 +51,10 @@ pub join-spec : {M : Type 1} → statement M
 join-spec =
     tie.close
     (tie.spec
-    choose-requires
+    (λ c κs. search needs)
     lead-move-requires
     follow-move-requires
-    follow-requires
+    (λ c κs. search needs)
     returns
     returns-2
     returns-3

@@ -18,18 +18,6 @@ abbrev μ-loop : tie.MeasureT-loop
 loop-holds : tie.Need-loop-holds Inv-loop μ-loop
 loop-holds c = shifting-none (c .pre .1)
 
-beside-requires : tie.Need-beside-requires Inv-loop μ-loop
-beside-requires c κs = search needs
-
-lead-row-requires : tie.Need-lead-row-requires Inv-loop μ-loop
-lead-row-requires c κs = search needs
-
-add-k : tie.Need-add-k Inv-loop μ-loop
-add-k c = search needs
-
-loop-less : tie.Need-loop-less Inv-loop μ-loop
-loop-less c = search needs
-
 loop-again : tie.Need-loop-again Inv-loop μ-loop
 loop-again c =
     let turn = c .before .before .before .before in
@@ -48,9 +36,9 @@ lead-move-spec =
     Inv-loop
     μ-loop
     loop-holds
-    beside-requires
-    lead-row-requires
-    add-k
-    loop-less
+    (λ c κs. search needs)
+    (λ c κs. search needs)
+    (λ c. search needs)
+    (λ c. search needs)
     loop-again
     returns)

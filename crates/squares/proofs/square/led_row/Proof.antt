@@ -17,24 +17,6 @@ abbrev μ-loop : tie.MeasureT-loop
 loop-holds : tie.Need-loop-holds Inv-loop μ-loop
 loop-holds c = (omega arith, leading-none)
 
-mul-raise-row : tie.Need-mul-raise-row Inv-loop μ-loop
-mul-raise-row c = search needs
-
-add-raise-row : tie.Need-add-raise-row Inv-loop μ-loop
-add-raise-row c = search needs
-
-element-copy-out-raise-row : tie.Need-element-copy-out-raise-row Inv-loop μ-loop
-element-copy-out-raise-row c = search needs
-
-raise-row-requires : tie.Need-raise-row-requires Inv-loop μ-loop
-raise-row-requires c κs = search needs
-
-add-i : tie.Need-add-i Inv-loop μ-loop
-add-i c = search needs
-
-loop-less : tie.Need-loop-less Inv-loop μ-loop
-loop-less c = search needs
-
 loop-again : tie.Need-loop-again Inv-loop μ-loop
 loop-again c = (omega arith, leading-more (c .before .before .before .before .loop .inv .1) (c .raise-row .ensures))
 
@@ -50,11 +32,11 @@ led-row-spec =
     Inv-loop
     μ-loop
     loop-holds
-    mul-raise-row
-    add-raise-row
-    element-copy-out-raise-row
-    raise-row-requires
-    add-i
-    loop-less
+    (λ c. search needs)
+    (λ c. search needs)
+    (λ c. search needs)
+    (λ c κs. search needs)
+    (λ c. search needs)
+    (λ c. search needs)
     loop-again
     returns)

@@ -14,29 +14,8 @@ Inv-loop kind l d s₀ k₀ s k = (d ≤ 32) × (k ≤ 31) × Diagonal d (λ i. 
 abbrev μ-loop : tie.MeasureT-loop
 μ-loop kind l d s₀ k₀ s k = l - k
 
-next-cell-requires : tie.Need-next-cell-requires Inv-loop μ-loop
-next-cell-requires c κs = search needs
-
 loop-holds : tie.Need-loop-holds Inv-loop μ-loop
 loop-holds c = (omega (arith, next-bound (c .before .args .kind)), omega arith, stored-none)
-
-add-loop : tie.Need-add-loop Inv-loop μ-loop
-add-loop c = search needs
-
-mul-s : tie.Need-mul-s Inv-loop μ-loop
-mul-s c = search needs
-
-add-s : tie.Need-add-s Inv-loop μ-loop
-add-s c = search needs
-
-array-write-s : tie.Need-array-write-s Inv-loop μ-loop
-array-write-s c = search needs
-
-add-k : tie.Need-add-k Inv-loop μ-loop
-add-k c = search needs
-
-loop-less : tie.Need-loop-less Inv-loop μ-loop
-loop-less c = search needs
 
 loop-again : tie.Need-loop-again Inv-loop μ-loop
 loop-again c =
@@ -54,13 +33,13 @@ move-square-spec =
     (tie.spec
     Inv-loop
     μ-loop
-    next-cell-requires
+    (λ c κs. search needs)
     loop-holds
-    add-loop
-    mul-s
-    add-s
-    array-write-s
-    add-k
-    loop-less
+    (λ c. search needs)
+    (λ c. search needs)
+    (λ c. search needs)
+    (λ c. search needs)
+    (λ c. search needs)
+    (λ c. search needs)
     loop-again
     returns)

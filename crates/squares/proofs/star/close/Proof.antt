@@ -17,20 +17,8 @@ Inv-loop s₀ l mid₀ s mid =
 abbrev μ-loop : tie.MeasureT-loop
 μ-loop s₀ l mid₀ s mid = l - mid
 
-stand-requires : tie.Need-stand-requires Inv-loop μ-loop
-stand-requires c κs = search needs
-
 loop-holds : tie.Need-loop-holds Inv-loop μ-loop
 loop-holds c = (search needs, c .stand .ensures .size, λ p w. w)
-
-pass-requires : tie.Need-pass-requires Inv-loop μ-loop
-pass-requires c κs = search needs
-
-add-mid : tie.Need-add-mid Inv-loop μ-loop
-add-mid c = search needs
-
-loop-less : tie.Need-loop-less Inv-loop μ-loop
-loop-less c = search needs
 
 loop-again : tie.Need-loop-again Inv-loop μ-loop
 loop-again c = (
@@ -53,10 +41,10 @@ close-spec =
     (tie.spec
     Inv-loop
     μ-loop
-    stand-requires
+    (λ c κs. search needs)
     loop-holds
-    pass-requires
-    add-mid
-    loop-less
+    (λ c κs. search needs)
+    (λ c. search needs)
+    (λ c. search needs)
     loop-again
     returns)

@@ -15,9 +15,6 @@ Inv-loop s₀ mid from to row k₀ s k = (from ≤ k) × (k ≤ to) × PassedRow
 abbrev μ-loop : tie.MeasureT-loop
 μ-loop s₀ mid from to row k₀ s k = to - k
 
-row-of-requires : tie.Need-row-of-requires Inv-loop μ-loop
-row-of-requires c κs = search needs
-
 loop-holds : tie.Need-loop-holds Inv-loop μ-loop
 loop-holds c = (le-refl _, c .before .before .pre .1, passing-none (c .before .before .pre .3))
 
@@ -25,12 +22,6 @@ pass-row-requires : tie.Need-pass-row-requires Inv-loop μ-loop
 pass-row-requires c κs =
     let turn = c .before .before .before .loop .inv in
     (omega arith, search needs, turn .2 .size)
-
-add-k : tie.Need-add-k Inv-loop μ-loop
-add-k c = search needs
-
-loop-less : tie.Need-loop-less Inv-loop μ-loop
-loop-less c = search needs
 
 loop-again : tie.Need-loop-again Inv-loop μ-loop
 loop-again c =
@@ -53,10 +44,10 @@ pass-spec =
     (tie.spec
     Inv-loop
     μ-loop
-    row-of-requires
+    (λ c κs. search needs)
     loop-holds
     pass-row-requires
-    add-k
-    loop-less
+    (λ c. search needs)
+    (λ c. search needs)
     loop-again
     returns)

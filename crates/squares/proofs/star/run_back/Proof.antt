@@ -19,26 +19,8 @@ Inv-loop s₀ l k₀ s k =
 abbrev μ-loop : tie.MeasureT-loop
 μ-loop s₀ l k₀ s k = l - k
 
-stand-requires : tie.Need-stand-requires Inv-loop μ-loop
-stand-requires c κs = search needs
-
 loop-holds : tie.Need-loop-holds Inv-loop μ-loop
 loop-holds c = (omega arith, c .stand .ensures .size, λ p w. w)
-
-sub-pass : tie.Need-sub-pass Inv-loop μ-loop
-sub-pass c = search needs
-
-add-pass : tie.Need-add-pass Inv-loop μ-loop
-add-pass c = search needs
-
-pass-requires : tie.Need-pass-requires Inv-loop μ-loop
-pass-requires c κs = search needs
-
-add-k : tie.Need-add-k Inv-loop μ-loop
-add-k c = search needs
-
-loop-less : tie.Need-loop-less Inv-loop μ-loop
-loop-less c = search needs
 
 loop-again : tie.Need-loop-again Inv-loop μ-loop
 unfolding Beside
@@ -67,12 +49,12 @@ run-back-spec =
     (tie.spec
     Inv-loop
     μ-loop
-    stand-requires
+    (λ c κs. search needs)
     loop-holds
-    sub-pass
-    add-pass
-    pass-requires
-    add-k
-    loop-less
+    (λ c. search needs)
+    (λ c. search needs)
+    (λ c κs. search needs)
+    (λ c. search needs)
+    (λ c. search needs)
     loop-again
     returns)

@@ -19,29 +19,8 @@ Inv-loop s₀ l k₀ s k =
 abbrev μ-loop : tie.MeasureT-loop
 μ-loop s₀ l k₀ s k = k
 
-stand-requires : tie.Need-stand-requires Inv-loop μ-loop
-stand-requires c κs = search needs
-
-sub-k : tie.Need-sub-k Inv-loop μ-loop
-sub-k c = search needs
-
 loop-holds : tie.Need-loop-holds Inv-loop μ-loop
 loop-holds c = (omega arith, c .stand .ensures .size, λ p w. w)
-
-sub-k-2 : tie.Need-sub-k-2 Inv-loop μ-loop
-sub-k-2 c = search needs
-
-add-pass : tie.Need-add-pass Inv-loop μ-loop
-add-pass c = search needs
-
-add-pass-2 : tie.Need-add-pass-2 Inv-loop μ-loop
-add-pass-2 c = search needs
-
-pass-requires : tie.Need-pass-requires Inv-loop μ-loop
-pass-requires c κs = search needs
-
-loop-less : tie.Need-loop-less Inv-loop μ-loop
-loop-less c = search needs
 
 loop-again : tie.Need-loop-again Inv-loop μ-loop
 unfolding Beside
@@ -70,13 +49,13 @@ run-on-spec =
     (tie.spec
     Inv-loop
     μ-loop
-    stand-requires
-    sub-k
+    (λ c κs. search needs)
+    (λ c. search needs)
     loop-holds
-    sub-k-2
-    add-pass
-    add-pass-2
-    pass-requires
-    loop-less
+    (λ c. search needs)
+    (λ c. search needs)
+    (λ c. search needs)
+    (λ c κs. search needs)
+    (λ c. search needs)
     loop-again
     returns)

@@ -15,23 +15,8 @@ Inv-loop records modes₀ conts₀ n q₀ modes conts q = (q ≤ n) × Until rec
 abbrev μ-loop : tie.MeasureT-loop
 μ-loop records modes₀ conts₀ n q₀ modes conts q = n - q
 
-record-count-requires : tie.Need-record-count-requires Inv-loop μ-loop
-record-count-requires c κs = search needs
-
 loop-holds : tie.Need-loop-holds Inv-loop μ-loop
 loop-holds c = let s = c .before .before in (omega arith, until-none (s .pre .1) (s .pre .2))
-
-kind-at-requires : tie.Need-kind-at-requires Inv-loop μ-loop
-kind-at-requires c κs = search needs
-
-is-modal-requires : tie.Need-is-modal-requires Inv-loop μ-loop
-is-modal-requires c κs = search needs
-
-field-b-requires : tie.Need-field-b-requires Inv-loop μ-loop
-field-b-requires c κs = search needs
-
-field-a-requires : tie.Need-field-a-requires Inv-loop μ-loop
-field-a-requires c κs = search needs
 
 hand-down-requires : tie.Need-hand-down-requires Inv-loop μ-loop
 hand-down-requires c κs =
@@ -47,12 +32,6 @@ hand-down-requires c κs =
       at .loop .inv .1 .modes-size,
       at .loop .inv .1 .conts-size,
     )
-
-add-q : tie.Need-add-q Inv-loop μ-loop
-add-q c = search needs
-
-loop-less : tie.Need-loop-less Inv-loop μ-loop
-loop-less c = search needs
 
 loop-again : tie.Need-loop-again Inv-loop μ-loop
 loop-again c =
@@ -80,14 +59,14 @@ find-contexts-spec =
     (tie.spec
     Inv-loop
     μ-loop
-    record-count-requires
+    (λ c κs. search needs)
     loop-holds
-    kind-at-requires
-    is-modal-requires
-    field-b-requires
-    field-a-requires
+    (λ c κs. search needs)
+    (λ c κs. search needs)
+    (λ c κs. search needs)
+    (λ c κs. search needs)
     hand-down-requires
-    add-q
-    loop-less
+    (λ c. search needs)
+    (λ c. search needs)
     loop-again
     returns)

@@ -6,21 +6,9 @@ use Rattle.records.specs.Code.{wayOf}
 use Rattle.translate.proofs.row.move_rows.Statement.{statement}
 use Rattle.translate.proofs.row.move_rows.Tie as tie
 
-add-moving-rows : tie.Need-add-moving-rows
-add-moving-rows c = search needs
-
-moving-rows-requires : tie.Need-moving-rows-requires
-moving-rows-requires c κs = search needs
-
 returns : tie.Need-returns
 unfolding moveRules wayOf
 returns c = rw (eq-eqb _ _ (c .before .if1 .taken)) (c .moving-rows .ensures)
-
-add-moving-rows-2 : tie.Need-add-moving-rows-2
-add-moving-rows-2 c = search needs
-
-moving-rows-requires-2 : tie.Need-moving-rows-requires-2
-moving-rows-requires-2 c κs = search needs
 
 returns-2 : tie.Need-returns-2
 unfolding moveRules wayOf
@@ -30,9 +18,9 @@ pub move-rows-spec : {M : Type 1} → statement M
 move-rows-spec =
     tie.close
     (tie.spec
-    add-moving-rows
-    moving-rows-requires
+    (λ c. search needs)
+    (λ c κs. search needs)
     returns
-    add-moving-rows-2
-    moving-rows-requires-2
+    (λ c. search needs)
+    (λ c κs. search needs)
     returns-2)

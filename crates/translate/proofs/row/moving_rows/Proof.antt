@@ -5,12 +5,6 @@ use Rattle.translate.proofs.Rowing.{edge-words}
 use Rattle.translate.proofs.row.moving_rows.Statement.{statement}
 use Rattle.translate.proofs.row.moving_rows.Tie as tie
 
-edge-body-requires : tie.Need-edge-body-requires
-edge-body-requires c κs = search needs
-
-edge-head-requires : tie.Need-edge-head-requires
-edge-head-requires c κs = search needs
-
 returns : tie.Need-returns
 returns c =
     let a = c .before .before .args in
@@ -19,4 +13,4 @@ returns c =
     }
 
 pub moving-rows-spec : {M : Type 1} → statement M
-moving-rows-spec = tie.close (tie.spec edge-body-requires edge-head-requires returns)
+moving-rows-spec = tie.close (tie.spec (λ c κs. search needs) (λ c κs. search needs) returns)

@@ -18,33 +18,6 @@ nine : (n : ℕ) → 7 ≤ n → n < 11 → (n ≡ 7 → ⊥) → (n ≡ 8 → �
 nine n h l p q r = omega arith
 
 -- ---- the calls and the returns
-same-rows-requires : tie.Need-same-rows-requires
-same-rows-requires c κs = search needs
-
-same-rows-requires-2 : tie.Need-same-rows-requires-2
-same-rows-requires-2 c κs = search needs
-
-add-same-rows : tie.Need-add-same-rows
-add-same-rows c = search needs
-
-same-rows-requires-3 : tie.Need-same-rows-requires-3
-same-rows-requires-3 c κs = search needs
-
-test-rows-requires : tie.Need-test-rows-requires
-test-rows-requires c κs = search needs
-
-join-rows-requires : tie.Need-join-rows-requires
-join-rows-requires c κs = search needs
-
-join-rows-requires-2 : tie.Need-join-rows-requires-2
-join-rows-requires-2 c κs = search needs
-
-move-rows-requires : tie.Need-move-rows-requires
-move-rows-requires c κs = search needs
-
-same-rows-requires-4 : tie.Need-same-rows-requires-4
-same-rows-requires-4 c κs = search needs
-
 returns : tie.Need-returns
 unfolding kindOf kinds rulesOf
 returns c = rw (c .before .match .keys1) (c .same-rows .ensures)
@@ -87,15 +60,15 @@ pub rows-of-spec : {M : Type 1} → statement M
 rows-of-spec =
     tie.close
     (tie.spec
-    same-rows-requires
-    same-rows-requires-2
-    add-same-rows
-    same-rows-requires-3
-    test-rows-requires
-    join-rows-requires
-    join-rows-requires-2
-    move-rows-requires
-    same-rows-requires-4
+    (λ c κs. search needs)
+    (λ c κs. search needs)
+    (λ c. search needs)
+    (λ c κs. search needs)
+    (λ c κs. search needs)
+    (λ c κs. search needs)
+    (λ c κs. search needs)
+    (λ c κs. search needs)
+    (λ c κs. search needs)
     returns
     returns-2
     returns-3

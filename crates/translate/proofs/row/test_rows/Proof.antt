@@ -11,15 +11,9 @@ returns : tie.Need-returns
 unfolding testRules modeOf
 returns c = rw (eq-eqb _ _ (c .if1 .taken)) (record { held = refl })
 
-add-not-a : tie.Need-add-not-a
-add-not-a c = search needs
-
-add-not-c : tie.Need-add-not-c
-add-not-c c = search needs
-
 returns-2 : tie.Need-returns-2
 unfolding testRules modeOf
 returns-2 c = rw (ne-eqb _ _ (c .if1 .left)) (record { held = refl })
 
 pub test-rows-spec : {M : Type 1} → statement M
-test-rows-spec = tie.close (tie.spec returns add-not-a add-not-c returns-2)
+test-rows-spec = tie.close (tie.spec returns (λ c. search needs) (λ c. search needs) returns-2)

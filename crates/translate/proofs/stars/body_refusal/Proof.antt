@@ -19,20 +19,11 @@ straight c =
     let ahead = sym (c .before .has-move .ensures) in
     ⊎-elim (λ w. rw (ahead ∙ w .0 .taken, sym (w .1 .ensures) ∙ w .2 .left)) (λ w. rw (ahead ∙ w .left)) (c .if1 .came)
 
-has-move-requires : tie.Need-has-move-requires
-has-move-requires c κs = search needs
-
-has-move-requires-2 : tie.Need-has-move-requires-2
-has-move-requires-2 c κs = search needs
-
 returns : tie.Need-returns
 unfolding bodyRefusal
 returns c =
     let one = c .before .before in
     rw (sym (one .before .has-move .ensures) ∙ one .if1 .taken, sym (c .before .has-move2 .ensures) ∙ c .if2 .taken)
-
-may-stand-requires : tie.Need-may-stand-requires
-may-stand-requires c κs = search needs
 
 returns-2 : tie.Need-returns-2
 unfolding bodyRefusal
@@ -45,4 +36,4 @@ returns-3 c = rw (straight (c .before .before), sym (c .before .may-stand .ensur
 pub body-refusal-spec : {M : Type 1} → statement M
 body-refusal-spec =
     tie.close
-    (tie.spec has-move-requires has-move-requires-2 returns may-stand-requires returns-2 returns-3)
+    (tie.spec (λ c κs. search needs) (λ c κs. search needs) returns (λ c κs. search needs) returns-2 returns-3)

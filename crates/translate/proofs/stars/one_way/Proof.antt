@@ -5,16 +5,10 @@ use Rattle.translate.proofs.Telling.{tells-both}
 use Rattle.translate.proofs.stars.one_way.Statement.{statement}
 use Rattle.translate.proofs.stars.one_way.Tie as tie
 
-has-move-requires : tie.Need-has-move-requires
-has-move-requires c κs = search needs
-
 returns : tie.Need-returns
 returns c =
     let ahead = sym (c .before .has-move .ensures) ∙ c .if1 .taken in
     tells-both _ _ 5 ahead (rw ahead at (c .before .before .before .pre .2))
-
-has-move-requires-2 : tie.Need-has-move-requires-2
-has-move-requires-2 c κs = search needs
 
 returns-2 : tie.Need-returns-2
 returns-2 c =
@@ -30,4 +24,4 @@ returns-3 c =
 
 pub one-way-spec : {M : Type 1} → statement M
 one-way-spec =
-    tie.close (tie.spec has-move-requires returns has-move-requires-2 returns-2 returns-3)
+    tie.close (tie.spec (λ c κs. search needs) returns (λ c κs. search needs) returns-2 returns-3)

@@ -26,18 +26,12 @@ told : (c : tie.After-field-a)
 told c = told-lower (omega (arith, body c .0)) (start c .pre .2)
 
 -- ---- the calls and the returns
-kind-at-requires : tie.Need-kind-at-requires
-kind-at-requires c κs = search needs
-
 returns : tie.Need-returns
 returns c =
     let number = c .before .kind-at .ensures in (
       other-grounds _ _ number (c .if1 .taken),
       λ _. told-other (c .before .before .before .pre .2) (λ e. c .if1 .taken (number ∙ e)),
     )
-
-field-a-requires : tie.Need-field-a-requires
-field-a-requires c κs = search needs
 
 body-refusal-requires : tie.Need-body-refusal-requires
 body-refusal-requires c κs = (body (c .before) .1, told (c .before))
@@ -80,9 +74,9 @@ pub star-refusal-spec : {M : Type 1} → statement M
 star-refusal-spec =
     tie.close
     (tie.spec
-    kind-at-requires
+    (λ c κs. search needs)
     returns
-    field-a-requires
+    (λ c κs. search needs)
     body-refusal-requires
     returns-2
     one-way-requires

@@ -20,9 +20,6 @@ Inv-loop s n ways₀ r₀ ways r = (r ≤ n) × Clear (each r (λ q. ground12 s 
 abbrev μ-loop : tie.MeasureT-loop
 μ-loop s n ways₀ r₀ ways r = n - r
 
-record-count-requires : tie.Need-record-count-requires Inv-loop μ-loop
-record-count-requires c κs = search needs
-
 loop-holds : tie.Need-loop-holds Inv-loop μ-loop
 loop-holds c = (omega arith, scan-none _, told-none _)
 
@@ -38,12 +35,6 @@ returns c =
     let turn = c .before .before .before .before in
     scan-found _ _ _ (omega (arith, turn .before .record-count .ensures)) (turn .loop .inv .1)
     (c .before .star-refusal .ensures .0) (c .if1 .taken)
-
-add-r : tie.Need-add-r Inv-loop μ-loop
-add-r c = search needs
-
-loop-less : tie.Need-loop-less Inv-loop μ-loop
-loop-less c = search needs
 
 loop-again : tie.Need-loop-again Inv-loop μ-loop
 loop-again c =
@@ -65,11 +56,11 @@ stars-refusal-spec =
     (tie.spec
     Inv-loop
     μ-loop
-    record-count-requires
+    (λ c κs. search needs)
     loop-holds
     star-refusal-requires
     returns
-    add-r
-    loop-less
+    (λ c. search needs)
+    (λ c. search needs)
     loop-again
     returns-2)

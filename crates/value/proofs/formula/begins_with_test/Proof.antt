@@ -4,9 +4,6 @@ use borrow.Author.Tests.{eq-eqb, ne-eqb}
 use Rattle.value.proofs.formula.begins_with_test.Statement.{statement}
 use Rattle.value.proofs.formula.begins_with_test.Tie as tie
 
-kind-at-requires : tie.Need-kind-at-requires
-kind-at-requires c κs = search needs
-
 returns : tie.Need-returns
 returns c = simp (eq-eqb _ _ (c .before .if1 .taken), c .kind-at .ensures)
 
@@ -14,4 +11,4 @@ returns-2 : tie.Need-returns-2
 returns-2 c = simp (ne-eqb _ _ (c .if1 .left))
 
 pub begins-with-test-spec : {M : Type 1} → statement M
-begins-with-test-spec = tie.close (tie.spec kind-at-requires returns returns-2)
+begins-with-test-spec = tie.close (tie.spec (λ c κs. search needs) returns returns-2)

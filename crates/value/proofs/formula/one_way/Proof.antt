@@ -17,17 +17,8 @@ Inv-loop records p q₀ kind₀ q kind =
 abbrev μ-loop : tie.MeasureT-loop
 μ-loop records p q₀ kind₀ q kind = q
 
-kind-at-requires : tie.Need-kind-at-requires Inv-loop μ-loop
-kind-at-requires c κs = search needs
-
 loop-holds : tie.Need-loop-holds Inv-loop μ-loop
 loop-holds c = (c .before .before .pre .1, c .kind-at .ensures, λ n m. m)
-
-field-a-requires : tie.Need-field-a-requires Inv-loop μ-loop
-field-a-requires c κs = search needs
-
-field-b-requires : tie.Need-field-b-requires Inv-loop μ-loop
-field-b-requires c κs = search needs
 
 kind-at-requires-2 : tie.Need-kind-at-requires-2 Inv-loop μ-loop
 kind-at-requires-2 c κs =
@@ -96,10 +87,10 @@ one-way-spec =
     (tie.spec
     Inv-loop
     μ-loop
-    kind-at-requires
+    (λ c κs. search needs)
     loop-holds
-    field-a-requires
-    field-b-requires
+    (λ c κs. search needs)
+    (λ c κs. search needs)
     kind-at-requires-2
     kind-at-requires-3
     returns

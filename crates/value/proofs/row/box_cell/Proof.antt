@@ -20,33 +20,6 @@ loop-holds : tie.Need-loop-holds Inv-loop μ-loop
 unfolding boxRow least
 loop-holds c = (search needs, refl)
 
-mul-imp : tie.Need-mul-imp Inv-loop μ-loop
-mul-imp c = search needs
-
-add-imp : tie.Need-add-imp Inv-loop μ-loop
-add-imp c = search needs
-
-element-copy-out-imp : tie.Need-element-copy-out-imp Inv-loop μ-loop
-element-copy-out-imp c = search needs
-
-add-imp-2 : tie.Need-add-imp-2 Inv-loop μ-loop
-add-imp-2 c = search needs
-
-shared-slice-read-imp : tie.Need-shared-slice-read-imp Inv-loop μ-loop
-shared-slice-read-imp c = search needs
-
-imp-requires : tie.Need-imp-requires Inv-loop μ-loop
-imp-requires c κs = search needs
-
-least-requires : tie.Need-least-requires Inv-loop μ-loop
-least-requires c κs = search needs
-
-add-j : tie.Need-add-j Inv-loop μ-loop
-add-j c = search needs
-
-loop-less : tie.Need-loop-less Inv-loop μ-loop
-loop-less c = search needs
-
 loop-again : tie.Need-loop-again Inv-loop μ-loop
 unfolding boxRow
 loop-again c =
@@ -64,14 +37,14 @@ box-cell-spec =
     Inv-loop
     μ-loop
     loop-holds
-    mul-imp
-    add-imp
-    element-copy-out-imp
-    add-imp-2
-    shared-slice-read-imp
-    imp-requires
-    least-requires
-    add-j
-    loop-less
+    (λ c. search needs)
+    (λ c. search needs)
+    (λ c. search needs)
+    (λ c. search needs)
+    (λ c. search needs)
+    (λ c κs. search needs)
+    (λ c κs. search needs)
+    (λ c. search needs)
+    (λ c. search needs)
     loop-again
     returns)

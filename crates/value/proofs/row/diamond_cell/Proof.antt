@@ -20,33 +20,6 @@ loop-holds : tie.Need-loop-holds Inv-loop μ-loop
 unfolding diamondRow greatest
 loop-holds c = (search needs, refl)
 
-mul-least : tie.Need-mul-least Inv-loop μ-loop
-mul-least c = search needs
-
-add-least : tie.Need-add-least Inv-loop μ-loop
-add-least c = search needs
-
-element-copy-out-least : tie.Need-element-copy-out-least Inv-loop μ-loop
-element-copy-out-least c = search needs
-
-add-least-2 : tie.Need-add-least-2 Inv-loop μ-loop
-add-least-2 c = search needs
-
-shared-slice-read-least : tie.Need-shared-slice-read-least Inv-loop μ-loop
-shared-slice-read-least c = search needs
-
-least-requires : tie.Need-least-requires Inv-loop μ-loop
-least-requires c κs = search needs
-
-greatest-requires : tie.Need-greatest-requires Inv-loop μ-loop
-greatest-requires c κs = search needs
-
-add-j : tie.Need-add-j Inv-loop μ-loop
-add-j c = search needs
-
-loop-less : tie.Need-loop-less Inv-loop μ-loop
-loop-less c = search needs
-
 loop-again : tie.Need-loop-again Inv-loop μ-loop
 unfolding diamondRow
 loop-again c =
@@ -64,14 +37,14 @@ diamond-cell-spec =
     Inv-loop
     μ-loop
     loop-holds
-    mul-least
-    add-least
-    element-copy-out-least
-    add-least-2
-    shared-slice-read-least
-    least-requires
-    greatest-requires
-    add-j
-    loop-less
+    (λ c. search needs)
+    (λ c. search needs)
+    (λ c. search needs)
+    (λ c. search needs)
+    (λ c. search needs)
+    (λ c κs. search needs)
+    (λ c κs. search needs)
+    (λ c. search needs)
+    (λ c. search needs)
     loop-again
     returns)

@@ -6,19 +6,13 @@ use Rattle.records.specs.Code.{modeOf}
 use Rattle.value.proofs.row.modal_cell.Statement.{statement}
 use Rattle.value.proofs.row.modal_cell.Tie as tie
 
-diamond-cell-requires : tie.Need-diamond-cell-requires
-diamond-cell-requires c κs = search needs
-
 returns : tie.Need-returns
 unfolding modeOf modalRow
 returns c = rw (eq-eqb _ _ (c .before .if1 .taken)) (c .diamond-cell .ensures)
-
-box-cell-requires : tie.Need-box-cell-requires
-box-cell-requires c κs = search needs
 
 returns-2 : tie.Need-returns-2
 unfolding modeOf modalRow
 returns-2 c = rw (ne-eqb _ _ (c .before .if1 .left)) (c .box-cell .ensures)
 
 pub modal-cell-spec : {M : Type 1} → statement M
-modal-cell-spec = tie.close (tie.spec diamond-cell-requires returns box-cell-requires returns-2)
+modal-cell-spec = tie.close (tie.spec (λ c κs. search needs) returns (λ c κs. search needs) returns-2)

@@ -29,20 +29,8 @@ loop-holds c = (search needs, omega arith, stored-none)
 shared-slice-read-table : tie.Need-shared-slice-read-table Inv-loop μ-loop
 shared-slice-read-table c = omega (arith, cells-within (c .before))
 
-add-table : tie.Need-add-table Inv-loop μ-loop
-add-table c = search needs
-
-slice-write-table : tie.Need-slice-write-table Inv-loop μ-loop
-slice-write-table c = search needs
-
 add-at : tie.Need-add-at Inv-loop μ-loop
 add-at c = omega (arith, cells-within (c .before))
-
-add-k : tie.Need-add-k Inv-loop μ-loop
-add-k c = search needs
-
-loop-less : tie.Need-loop-less Inv-loop μ-loop
-loop-less c = search needs
 
 loop-again : tie.Need-loop-again Inv-loop μ-loop
 loop-again c =
@@ -51,9 +39,6 @@ loop-again c =
       rw (add-one, mul-suc) (omega arith),
       stored-more (turn .inv .2) refl (omega arith) (rw (turn .inv .1)) (λ i h. omega arith),
     )
-
-same-length : tie.Need-same-length Inv-loop μ-loop
-same-length c = search needs
 
 returns : tie.Need-returns Inv-loop μ-loop
 returns c = along-put (c .before .loop .inv .2) (omega arith)
@@ -66,11 +51,11 @@ put-atom-spec =
     μ-loop
     loop-holds
     shared-slice-read-table
-    add-table
-    slice-write-table
+    (λ c. search needs)
+    (λ c. search needs)
     add-at
-    add-k
-    loop-less
+    (λ c. search needs)
+    (λ c. search needs)
     loop-again
-    same-length
+    (λ c. search needs)
     returns)

@@ -9,8 +9,5 @@ mul-result : tie.Need-mul-result
 mul-result c =
     omega (arith, mul-le-mul {n₁ = c .args .r} {m₁ = c .args .l} {n₂ = 255} {m₂ = 32} (omega arith) (omega arith))
 
-returns : tie.Need-returns
-returns c = search needs
-
 pub row-start-spec : {M : Type 1} → statement M
-row-start-spec = tie.close (tie.spec mul-result returns)
+row-start-spec = tie.close (tie.spec mul-result (λ c. search needs))
