@@ -1,21 +1,20 @@
 -- What the questions about accepted records ask.
---   Formed s          the records of a formula, over some number of atoms
---   Ready s A         the records of a formula over A atoms
---   AskedPath s p     record p is one of its paths
---   Tells s p x       x is the kind of the moves that path p has, 0 if it has none
---   Told s m ways     the array tells so of each star before record m
---   bodyRefusal p     12, 11 or 0, for a star with the body p
-use Prim.Native.Nat.{ℕ, _<_, _≤_}
+--   Formed s            the records of a formula, over some number of atoms
+--   Ready s A           the records of a formula over A atoms
+--   AskedPath s p       record p is one of its paths
+--   AskedRecord s r n   record r is one of its records, and n is its kind's number
+--   movesOf p           the moves that the path p has, as bits: 1 steps, 2 back steps
+--   MovesTold s q x     if record q is a path, its moves are x
+--   Told s m ways       the array tells so of each record before record m
+use Prim.Native.Nat.{ℕ, _+_, _*_, _<_}
 use mathlib.Core.Path.{_≡_}
-use mathlib.Core.Bool.{false, cond, _&&_}
+use mathlib.Core.Bool.{Bool, false, cond}
 use mathlib.Core.List.{List}
-use lib.Dec.{eqb}
 use lib.ListN.{length, getD}
-use Rattle.meaning.specs.Record.{count, kindAt, kindByte, path, sortOf}
-use Rattle.meaning.specs.Formula.{Path, mayStand, goes}
+use Rattle.meaning.specs.Record.{mostRecords, count, kindAt, kindByte, path, sortOf, ahead, back}
+use Rattle.meaning.specs.Formula.{Path, goes}
 use Rattle.meaning.specs.Tree.{pathAt}
 use Rattle.meaning.specs.WellFormed.{WellFormed}
-use Rattle.records.specs.Code.{wayOf}
 
 pub record Formed (s : List ℕ) : Type 0 where
   pub atoms : ℕ
@@ -29,12 +28,20 @@ pub record AskedPath (s : List ℕ) (p : ℕ) : Type 0 where
   pub index : p < count s
   pub sorted : sortOf (kindAt s p) ≡ path
 
-abbrev pub Tells : List ℕ → ℕ → ℕ → Type 0
-Tells s p x = (v : ℕ) → 5 ≤ v → v < 7 → eqb x v ≡ goes (wayOf v) (pathAt s p)
+pub record AskedRecord (s : List ℕ) (r n : ℕ) : Type 0 where
+  pub whole : Formed s
+  pub index : r < count s
+  pub number : n ≡ kindByte s r
+
+abbrev pub bit : Bool → ℕ
+bit b = cond b 1 0
+
+unfoldable pub movesOf : Path → ℕ
+movesOf p = bit (goes back p) * 2 + bit (goes ahead p)
+
+abbrev pub MovesTold : List ℕ → ℕ → ℕ → Type 0
+MovesTold s q x = sortOf (kindAt s q) ≡ path → x ≡ movesOf (pathAt s q)
 
 pub record Told (s : List ℕ) (m : ℕ) (ways : List ℕ) : Type 0 where
-  pub size : length ways ≡ 255
-  pub tells : (q : ℕ) → q < m → kindByte s q ≡ 10 → Tells s q (getD ways q 0)
-
-unfoldable pub bodyRefusal : Path → ℕ
-bodyRefusal p = cond (goes (wayOf 5) p && goes (wayOf 6) p) 12 (cond (mayStand p) 11 0)
+  pub size : length ways ≡ mostRecords
+  pub tells : (q : ℕ) → q < m → MovesTold s q (getD ways q 0)

@@ -1,16 +1,14 @@
--- `stars::stars_refusal` meets its contract: before record r, no star's ground applies, and the array tells of all
--- stars.
+-- `stars::stars_refusal` meets its contract: before record r, no star's ground applies, and the array tells the moves of
+-- all paths.
 use Prim.Native.Nat.{_-_, _≤_}
-use mathlib.Core.Path.{sym, _∙_}
 use mathlib.Core.List.{[], _∷_}
 use native.Mathlib.Omega.{arith}
 use borrow.Author.Needs.{needs}
 use Rattle.meaning.specs.Run.{each}
 use Rattle.meaning.specs.Refusal.{ground11, ground12, starGrounds}
-use Rattle.meaning.proofs.First.{Clear, scan-none, scan-more, scan-found, scan-done, none-clear}
+use Rattle.meaning.proofs.First.{Clear, scan-none, scan-more, scan-found, scan-done}
 use Rattle.translate.specs.Asking.{Told}
-use Rattle.translate.proofs.Standing.{star-numbered}
-use Rattle.translate.proofs.Telling.{told-none}
+use Rattle.translate.proofs.Moving.{told-none, told-more, grounds-clear}
 use Rattle.translate.proofs.stars.stars_refusal.Statement.{statement}
 use Rattle.translate.proofs.stars.stars_refusal.Tie as tie
 
@@ -20,30 +18,43 @@ Inv-loop s n ways₀ r₀ ways r = (r ≤ n) × Clear (each r (λ q. ground12 s 
 abbrev μ-loop : tie.MeasureT-loop
 μ-loop s n ways₀ r₀ ways r = n - r
 
+record-count-requires : tie.Need-record-count-requires Inv-loop μ-loop
+record-count-requires c κs = search needs
+
 loop-holds : tie.Need-loop-holds Inv-loop μ-loop
 loop-holds c = (omega arith, scan-none _, told-none _)
 
+kind-at-requires : tie.Need-kind-at-requires Inv-loop μ-loop
+kind-at-requires c κs = search needs
+
+moves-of-requires : tie.Need-moves-of-requires Inv-loop μ-loop
+moves-of-requires c κs = search needs
+
 star-refusal-requires : tie.Need-star-refusal-requires Inv-loop μ-loop
-star-refusal-requires c κs =
-    let turn = c .before .before in
-    let s = turn .before .before .before in
-    (s .pre, omega (arith, turn .before .record-count .ensures), turn .loop .inv .2)
+star-refusal-requires c κs = search needs
 
 returns : tie.Need-returns Inv-loop μ-loop
 unfolding starGrounds
 returns c =
-    let turn = c .before .before .before .before in
-    scan-found _ _ _ (omega (arith, turn .before .record-count .ensures)) (turn .loop .inv .1)
-    (c .before .star-refusal .ensures .0) (c .if1 .taken)
+    let at = c .before .before .before .before .before .before in
+    scan-found _ _ _ (omega (arith, at .before .record-count .ensures)) (at .loop .inv .1)
+    (c .before .star-refusal .ensures) (c .if1 .taken)
+
+array-write-ways : tie.Need-array-write-ways Inv-loop μ-loop
+array-write-ways c = search needs
+
+add-r : tie.Need-add-r Inv-loop μ-loop
+add-r c = search needs
+
+loop-less : tie.Need-loop-less Inv-loop μ-loop
+loop-less c = search needs
 
 loop-again : tie.Need-loop-again Inv-loop μ-loop
 loop-again c =
-    let turn = c .before .before .before .before in
-    let done = c .before .star-refusal in (
+    let at = c .before .before .before .before .before .before in (
       omega arith,
-      scan-more _ _ (turn .loop .inv .1)
-          (none-clear _ (star-numbered _ _) (sym (done .ensures .0) ∙ c .if1 .left)),
-      done .ensures .1 (c .if1 .left),
+      scan-more _ _ (at .loop .inv .1) (grounds-clear _ _ (c .before .star-refusal .ensures) (c .if1 .left)),
+      told-more (array-write-ways c) (at .loop .inv .2) (c .before .before .moves-of .ensures),
     )
 
 returns-2 : tie.Need-returns-2 Inv-loop μ-loop
@@ -56,11 +67,14 @@ stars-refusal-spec =
     (tie.spec
     Inv-loop
     μ-loop
-    (λ c κs. search needs)
+    record-count-requires
     loop-holds
+    kind-at-requires
+    moves-of-requires
     star-refusal-requires
     returns
-    (λ c. search needs)
-    (λ c. search needs)
+    array-write-ways
+    add-r
+    loop-less
     loop-again
     returns-2)
