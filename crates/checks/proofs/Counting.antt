@@ -10,8 +10,7 @@ use native.Mathlib.Omega.{arith}
 use borrow.Author.Tests.{eq-eqb, ne-eqb}
 use lib.ListN.{length, getD, set, replicate, length-set, getD-replicate}
 use lib.Seq.{getD-set-same, getD-set-other}
-use Rattle.meaning.specs.Record.{Use, unused, atomNumber, child, count, mostRecords}
-use Rattle.meaning.specs.Translation.{names, uses, placesIn}
+use Rattle.meaning.specs.Record.{Use, unused, atomNumber, child, count, mostRecords, names, uses, placesIn}
 use Rattle.meaning.specs.Refusal.{firstOf, ground7}
 use Rattle.meaning.proofs.First.{Clear}
 use Rattle.records.specs.Code.{useOf}

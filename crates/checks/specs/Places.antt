@@ -8,9 +8,8 @@ use Prim.Native.Nat.{ℕ, _+_, _<_, _≤_, min}
 use mathlib.Core.Path.{_≡_}
 use mathlib.Core.List.{List, [], _∷_}
 use lib.ListN.{length, getD}
-use Rattle.meaning.specs.Record.{Use, mostRecords}
+use Rattle.meaning.specs.Record.{Use, mostRecords, names, placesIn}
 use Rattle.meaning.specs.Refusal.{Ground, ground, firstOf, stray, late, beyond, misfit}
-use Rattle.meaning.specs.Translation.{names, placesIn}
 use Rattle.records.specs.Code.{useOf}
 
 unfoldable pub fieldGrounds : List ℕ → ℕ → ℕ → Use → ℕ → List Ground

@@ -11,8 +11,8 @@ use native.Mathlib.Omega.{arith}
 use lib.Dec.{eqb}
 use borrow.Author.Tests.{eq-eqb, ne-eqb}
 use Rattle.meaning.specs.Record.{Kind, constant, atom, modal, move, test, choice, sequence, star, shorthand, unknown, columnsOf}
-use Rattle.meaning.specs.Record.{count, kindAt, fieldA, fieldB, Sort, child, useA, useB, path, sortOf, known}
-use Rattle.meaning.specs.Translation.{names, uses, parent, Context, under, handed, contextIn, context}
+use Rattle.meaning.specs.Record.{count, kindAt, fieldA, fieldB, Sort, child, useA, useB, path, sortOf, known, names, uses, parent}
+use Rattle.meaning.specs.Translation.{Context, under, handed, contextIn, context}
 use Rattle.meaning.specs.WellFormed.{Fits, WellFormed}
 use Rattle.meaning.proofs.Bounds.{le-or-lt}
 use Rattle.meaning.proofs.Parents.{InSecond, first-used, second-used, one-field, has-parent, child-earlier, parent-is}

@@ -11,8 +11,7 @@ use native.Mathlib.Nat.{le-refl}
 use native.Mathlib.Omega.{arith}
 use lib.Dec.{eqb}
 use borrow.Author.Tests.{eq-eqb, ne-eqb}
-use Rattle.meaning.specs.Record.{count, kindAt, fieldA, fieldB, Sort, Use, unused, atomNumber, child, useA, useB}
-use Rattle.meaning.specs.Translation.{names, uses, placesIn, parentIn, parent}
+use Rattle.meaning.specs.Record.{count, kindAt, fieldA, fieldB, Sort, Use, unused, atomNumber, child, useA, useB, names, uses, placesIn, parentIn, parent}
 use Rattle.meaning.specs.WellFormed.{WellFormed}
 use Rattle.meaning.proofs.Bounds.{le-or-lt, below-suc}
 

@@ -7,11 +7,14 @@
 --   recordBytes kind a b        the bytes of one record
 --   columnsOf kind              the table's row: whether such a record is a formula or a path, and what its fields hold
 --   sortOf kind, useA kind, useB kind   its three columns
+--   uses s r q                  in how many fields of record q the record r is the child
+--   places s r, parent s r      in how many places of all records; the record of that place
 --   known full kind             whether a service takes the kind: `full` is true for the expander
-use Prim.Native.Nat.{ℕ, _+_, _*_, _/_, _%_}
-use mathlib.Core.Bool.{Bool, true, false}
+use Prim.Native.Nat.{ℕ, zero, suc, _+_, _*_, _/_, _%_}
+use mathlib.Core.Bool.{Bool, true, false, cond}
 use mathlib.Core.List.{List, [], _∷_, _++_}
 use lib.ListN.{length, getD, replicate}
+use lib.Dec.{eqb}
 
 -- ---- the layout
 abbrev pub recordSize : ℕ
@@ -142,3 +145,28 @@ known full sequence = true
 known full star = true
 known full (shorthand σ) = full
 known full unknown = false
+
+-- ---- parents
+-- 1 if a field of this use that holds v has r as its child, else 0.
+unfoldable pub names : Use → ℕ → ℕ → ℕ
+names unused v r = 0
+names atomNumber v r = 0
+names (child sort) v r = cond (eqb v r) 1 0
+
+unfoldable pub uses : List ℕ → ℕ → ℕ → ℕ
+uses s r q = names (useA (kindAt s q)) (fieldA s q) r + names (useB (kindAt s q)) (fieldB s q) r
+
+-- Of the first m records.
+unfoldable pub placesIn : List ℕ → ℕ → ℕ → ℕ
+placesIn s r zero = 0
+placesIn s r (suc m) = placesIn s r m + uses s r m
+
+abbrev pub places : List ℕ → ℕ → ℕ
+places s r = placesIn s r (count s)
+
+unfoldable pub parentIn : List ℕ → ℕ → ℕ → ℕ
+parentIn s r zero = 0
+parentIn s r (suc m) = cond (eqb (uses s r m) 0) (parentIn s r m) m
+
+abbrev pub parent : List ℕ → ℕ → ℕ
+parent s r = parentIn s r (count s)

@@ -9,11 +9,11 @@ use mathlib.Core.List.{List, [], _∷_, _++_}
 use lib.ListN.{length, getD}
 use lib.Dec.{leb, ltb, eqb}
 use Rattle.meaning.specs.Run.{each}
-use Rattle.meaning.specs.Record.{recordSize, mostRecords, count, zeroByte, fieldA, fieldB, kindAt, Kind, Sort, Use, unused, atomNumber, child, useA, useB, sortOf, known, ahead, back}
+use Rattle.meaning.specs.Record.{recordSize, mostRecords, count, zeroByte, fieldA, fieldB, kindAt, Kind, Sort, Use, unused, atomNumber, child, useA, useB, sortOf, known, ahead, back, places}
 use Rattle.meaning.specs.Formula.{mayStand, goes}
 use Rattle.meaning.specs.Tree.{formAt, pathAt, formSize}
 use Rattle.meaning.specs.Rule.{Rule, ruleSize, ruleAt, symbolOf, isPrevious}
-use Rattle.meaning.specs.Translation.{places, translation}
+use Rattle.meaning.specs.Translation.{translation}
 use Rattle.meaning.specs.Judge.{ruleCount}
 
 pub record Ground : Type 0 where

@@ -1,7 +1,5 @@
 -- Document 01, Translation: the rules of each record, and of the whole formula.
 --   label A r           the symbol of record r's label
---   uses s r q          in how many fields of record q the record r is the child
---   places s r          in how many places of all records
 --   context s r         what the path record r stands under: the modality's mode, and the record whose label continues it
 --   rulesOf ..          the rules of one record
 --   translation s A     all rules; the last asserts the whole formula
@@ -11,7 +9,7 @@ use mathlib.Core.Bool.{Bool, true, false, cond}
 use mathlib.Core.List.{List, [], _∷_, _++_}
 use lib.Dec.{eqb}
 use Rattle.meaning.specs.Run.{each}
-use Rattle.meaning.specs.Record.{Kind, constant, atom, modal, move, test, choice, sequence, star, shorthand, unknown, Mode, diamond, box, Way, ahead, back, Use, unused, atomNumber, child, useA, useB, kindAt, fieldA, fieldB, count}
+use Rattle.meaning.specs.Record.{Kind, constant, atom, modal, move, test, choice, sequence, star, shorthand, unknown, Mode, diamond, box, Way, ahead, back, kindAt, fieldA, fieldB, count, parent}
 use Rattle.meaning.specs.Rule.{Rule, rule, previously, negated}
 
 -- ---- symbols
@@ -26,31 +24,6 @@ atomSymbol i = 2 + i
 
 abbrev pub label : ℕ → ℕ → ℕ
 label A r = 2 + A + r
-
--- ---- parents
--- 1 if a field of this use that holds v has r as its child, else 0.
-unfoldable pub names : Use → ℕ → ℕ → ℕ
-names unused v r = 0
-names atomNumber v r = 0
-names (child sort) v r = cond (eqb v r) 1 0
-
-unfoldable pub uses : List ℕ → ℕ → ℕ → ℕ
-uses s r q = names (useA (kindAt s q)) (fieldA s q) r + names (useB (kindAt s q)) (fieldB s q) r
-
--- Of the first m records.
-unfoldable pub placesIn : List ℕ → ℕ → ℕ → ℕ
-placesIn s r zero = 0
-placesIn s r (suc m) = placesIn s r m + uses s r m
-
-abbrev pub places : List ℕ → ℕ → ℕ
-places s r = placesIn s r (count s)
-
-unfoldable pub parentIn : List ℕ → ℕ → ℕ → ℕ
-parentIn s r zero = 0
-parentIn s r (suc m) = cond (eqb (uses s r m) 0) (parentIn s r m) m
-
-abbrev pub parent : List ℕ → ℕ → ℕ
-parent s r = parentIn s r (count s)
 
 -- ---- what a path stands under
 pub record Context : Type 0 where

@@ -7,8 +7,7 @@ use mathlib.Core.Path.{_≡_}
 use mathlib.Core.Bool.{Bool, true}
 use mathlib.Core.List.{List}
 use lib.ListN.{length}
-use Rattle.meaning.specs.Record.{recordSize, mostRecords, count, kindAt, zeroByte, fieldA, fieldB, Use, unused, atomNumber, child, useA, useB, formula, sortOf, known}
-use Rattle.meaning.specs.Translation.{places}
+use Rattle.meaning.specs.Record.{recordSize, mostRecords, count, kindAt, zeroByte, fieldA, fieldB, Use, unused, atomNumber, child, useA, useB, formula, sortOf, known, places}
 use Rattle.meaning.specs.Refusal.{mostAtoms}
 
 -- An unused field is zero, an atom is one of the A, a child is earlier and of its sort.

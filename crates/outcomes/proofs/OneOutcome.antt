@@ -68,6 +68,7 @@ one-outcome = record {
   tree-refusal = λ κs a o u. alone;
   formula-refusal = λ κs a o u. alone;
   check = λ κs a o u. alone;
+  stars-refusal = λ κs a o u. alone;
   wrong-size = λ κs a o u. alone;
   cells-refusal = λ κs a o u. alone;
   move-square = λ κs a o u p q k j h g. same (p .cells k j h g) (q .cells k j h g);

@@ -19,6 +19,7 @@ use Rattle.records.proofs.layout as layout
 use Rattle.records.proofs.shape as shape
 use Rattle.checks.proofs as checks
 use Rattle.checks.proofs.refusal as refusal
+use Rattle.paths.proofs.stars as stars
 use Rattle.expand.proofs as expand
 use Rattle.trace.proofs as trace
 use Rattle.squares.specs.Cells.{at}
@@ -68,6 +69,8 @@ pub record OneOutcome : Type 0 where
   pub tree-refusal : OneFits refusal.tree_refusal.Kinds.ps refusal.tree_refusal.Kinds.r refusal.tree_refusal.Reads.Post
   pub formula-refusal : OneFits refusal.formula_refusal.Kinds.ps refusal.formula_refusal.Kinds.r refusal.formula_refusal.Reads.Post
   pub check : OneFits checks.check.Kinds.ps checks.check.Kinds.r checks.check.Reads.Post
+  -- paths
+  pub stars-refusal : OneFits stars.stars_refusal.Kinds.ps stars.stars_refusal.Kinds.r stars.stars_refusal.Reads.Post
   -- trace
   pub wrong-size : OneFits trace.wrong_size.Kinds.ps trace.wrong_size.Kinds.r trace.wrong_size.Reads.Post
   pub cells-refusal : OneFits trace.cells_refusal.Kinds.ps trace.cells_refusal.Kinds.r trace.cells_refusal.Reads.Post

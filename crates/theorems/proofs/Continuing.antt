@@ -9,8 +9,7 @@ use mathlib.Core.Logic.{_⊎_, inl, inr}
 use native.Mathlib.Omega.{arith}
 use Rattle.meaning.specs.Record.{Kind, constant, atom, modal, move, test, choice, sequence, star, shorthand, unknown, columnsOf}
 use Rattle.meaning.specs.Record.{count, kindAt, fieldA, fieldB, Sort, formula, path, sortOf}
-use Rattle.meaning.specs.Record.{Mode, Use, unused, atomNumber, child, useA, useB}
-use Rattle.meaning.specs.Translation.{parent}
+use Rattle.meaning.specs.Record.{Mode, Use, unused, atomNumber, child, useA, useB, parent}
 use Rattle.meaning.specs.WellFormed.{WellFormed}
 use Rattle.meaning.proofs.Nodes.{differs}
 use Rattle.meaning.proofs.Parents.{InFirst, InSecond, used-in, has-parent, child-earlier}

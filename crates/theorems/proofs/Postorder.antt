@@ -7,11 +7,10 @@ use mathlib.Core.List.{List, _++_}
 use native.Mathlib.Omega.{arith}
 use lib.ListN.{length, length-append}
 use Rattle.meaning.specs.Record.{recordSize, recordBytes, Kind, Mode, diamond, box, Way, ahead, back, kinds, kindOf, columnsOf}
-use Rattle.meaning.specs.Record.{Sort, sortOf, known}
+use Rattle.meaning.specs.Record.{Sort, sortOf, known, names}
 use Rattle.meaning.specs.Formula.{Form, Path}
 use Rattle.meaning.specs.Tree.{Tree, asForm, asPath, nodeOf}
 use Rattle.meaning.specs.Tree.{formSize, pathSize, modalNumber, moveNumber, formFrom, pathFrom}
-use Rattle.meaning.specs.Translation.{names}
 use Rattle.theorems.proofs.Bytes.{At, at-first, at-second, at-record}
 use Rattle.theorems.proofs.Atoms.{formAtoms, pathAtoms}
 use Rattle.theorems.proofs.Blocks.{Block, Leaf, Single, Double, block-leaf, block-single, block-double}

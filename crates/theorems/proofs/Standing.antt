@@ -10,9 +10,9 @@ use native.Mathlib.Omega.{arith}
 use lib.ListN.{length, getD}
 use lib.Seq.{ext-getD}
 use Rattle.meaning.specs.Run.{each, tabulate, cellOf}
-use Rattle.meaning.specs.Record.{count, diamond, kinds, kindOf, columnsOf}
+use Rattle.meaning.specs.Record.{count, diamond, kinds, kindOf, columnsOf, names, uses, parentIn}
 use Rattle.meaning.specs.Rule.{Rule, symbolValue, plain, literal}
-use Rattle.meaning.specs.Translation.{names, uses, parentIn, handed, contextIn}
+use Rattle.meaning.specs.Translation.{handed, contextIn}
 use Rattle.meaning.specs.Translation.{sameRules, joinRules, testRules, rulesOf, rulesAt}
 use Rattle.meaning.specs.Examples.{standing}
 use Rattle.meaning.proofs.Runs.{length-tabulate, getD-tabulate}

@@ -8,8 +8,7 @@ use mathlib.Core.Logic.{_⊎_, inl, inr}
 use native.Mathlib.Omega.{arith}
 use lib.ListN.{length}
 use borrow.Author.Tests.{lt-ltb, le-ltb}
-use Rattle.meaning.specs.Record.{count, kindByte, kindAt, fieldA, formula, path, sortOf}
-use Rattle.meaning.specs.Translation.{uses, parent}
+use Rattle.meaning.specs.Record.{count, kindByte, kindAt, fieldA, formula, path, sortOf, uses, parent}
 use Rattle.meaning.specs.WellFormed.{WellFormed}
 use Rattle.meaning.proofs.Nodes.{either-sort}
 use Rattle.meaning.proofs.Bounds.{le-or-lt, all-suc}
@@ -17,7 +16,7 @@ use Rattle.meaning.proofs.Parents.{InFirst, InSecond, used-in, has-parent, chil
 use Rattle.meaning.proofs.Climbing.{path-before, continuation-record}
 use Rattle.records.proofs.Numbers.{formula-number}
 use Rattle.records.proofs.Held.{constant-first, atom-first, leaf-second, modal-second}
-use Rattle.translate.specs.Asking.{Formed}
+use Rattle.paths.specs.Asking.{Formed}
 use Rattle.translate.specs.Contexts.{PathUnder, itself, first, second, Right, Handed, AllHanded, isModal}
 
 -- ---- from a path to its modality

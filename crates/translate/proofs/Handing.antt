@@ -24,7 +24,7 @@ use Rattle.records.specs.Code.{modeOf}
 use Rattle.records.proofs.Numbers.{modal-kind, join-kind, star-kind, path-number}
 use Rattle.records.proofs.Held.{modal-first, modal-second, path-first, join-second, move-first, move-second}
 use Rattle.records.proofs.Held.{test-first, star-second}
-use Rattle.translate.specs.Asking.{AskedPath}
+use Rattle.paths.specs.Asking.{AskedPath}
 use Rattle.translate.specs.Contexts.{Placed, PathUnder, itself, first, second, Right, Handed, firstCont, isModal}
 
 -- ---- what parts stand under

@@ -1,6 +1,4 @@
 -- What the proofs of several functions cite.
-pub mod Standing
-pub mod Moving
 pub mod Handing
 pub mod Found
 pub mod Rowing

@@ -15,7 +15,7 @@ use Rattle.meaning.specs.Record.{count, kindAt, fieldA, fieldB, path, sortOf, c
 use Rattle.meaning.specs.Translation.{context, under}
 use Rattle.meaning.specs.Tree.{modalNumber}
 use Rattle.records.specs.Code.{modeOf}
-use Rattle.translate.specs.Asking.{AskedPath}
+use Rattle.paths.specs.Asking.{AskedPath}
 
 pub record Placed (s : List ℕ) (mode c p : ℕ) : Type 0 where
   pub asked : AskedPath s p

@@ -2,7 +2,7 @@
 // record number falling.
 ghost use mathlib.Core.Path.{_≡_};
 ghost use lib.ListN.{length};
-ghost use Rattle.translate.specs.Asking.{Formed};
+ghost use Rattle.paths.specs.Asking.{Formed};
 ghost use Rattle.translate.specs.Contexts.{Placed, Handed, AllHanded, firstCont, isModal};
 use records::kind;
 use records::layout;

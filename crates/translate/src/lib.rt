@@ -1,7 +1,6 @@
 // Translating a formula into rules.
 mod context;
 mod row;
-mod stars;
 
 ghost use mathlib.Core.Path.{_≡_};
 ghost use Prim.Native.Nat.{_*_, _+_, _<_, _≤_};
@@ -13,7 +12,7 @@ ghost use Rattle.meaning.specs.Rule.{words, ruleSize};
 ghost use Rattle.meaning.specs.Translation.{rulesAt, translation, ruleSum};
 ghost use Rattle.meaning.specs.Refusal.{firstOf, starredGrounds};
 ghost use Rattle.meaning.specs.Service.{translateAnswer, translateAfter};
-ghost use Rattle.translate.specs.Asking.{Formed, Ready};
+ghost use Rattle.paths.specs.Asking.{Formed, Ready};
 ghost use Rattle.translate.specs.Contexts.{AllHanded, Moded};
 ghost use Rattle.translate.specs.Rows.{Rowed, Small, Put, rulesIn, ruleOf};
 use records::layout;
@@ -63,7 +62,7 @@ fn first_refusal(records: &[u8], atoms: u64) -> u8
     if x != refusals::ACCEPTED {
         return x;
     }
-    stars::stars_refusal(records)
+    paths::stars::stars_refusal(records)
 }
 
 // How many rules the translation has.

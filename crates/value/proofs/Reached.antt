@@ -6,8 +6,7 @@ use mathlib.Core.Bool.{Bool}
 use mathlib.Core.List.{List}
 use mathlib.Core.Logic.{_⊎_, inl, inr}
 use native.Mathlib.Omega.{arith}
-use Rattle.meaning.specs.Record.{count}
-use Rattle.meaning.specs.Translation.{parent}
+use Rattle.meaning.specs.Record.{count, parent}
 use Rattle.meaning.specs.WellFormed.{WellFormed}
 use Rattle.meaning.proofs.Bounds.{le-or-lt}
 use Rattle.meaning.proofs.Parents.{InFirst, InSecond, used-in, has-parent, child-earlier}

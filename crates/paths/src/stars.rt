@@ -5,7 +5,8 @@ ghost use mathlib.Core.List.{[], _∷_};
 ghost use Rattle.meaning.specs.Formula.{mayStand};
 ghost use Rattle.meaning.specs.Tree.{pathAt};
 ghost use Rattle.meaning.specs.Refusal.{firstOf, ground11, ground12, starGrounds};
-ghost use Rattle.translate.specs.Asking.{Formed, AskedPath, AskedRecord, MovesTold, Told};
+ghost use Rattle.paths.specs.Asking.{Formed, AskedPath, AskedRecord, MovesTold, Told};
+use records::kind;
 use records::layout;
 
 // The moves that a path has are two bits: this one if it has steps,
@@ -20,17 +21,17 @@ fn may_stand(records: &[u8], p: usize) -> bool
     ensures { λ b. ⌜ b ≡ mayStand (pathAt (now (records .entry)) p) ⌝ }
 {
     let kind = layout::kind_at(records, p);
-    if kind < 7 {
+    if kind < kind::TEST {
         return false;
     }
-    if kind == 7 {
+    if kind == kind::TEST {
         return true;
     }
-    if kind == 10 {
+    if kind == kind::STAR {
         return true;
     }
     let first = may_stand(records, layout::field_a(records, p));
-    if kind == 8 {
+    if kind == kind::CHOICE {
         if first {
             return true;
         }
@@ -43,22 +44,22 @@ fn may_stand(records: &[u8], p: usize) -> bool
 }
 
 // The moves of record r, if it is a path; what a test's formula has does not count. `ways` has those of the paths before it.
-fn moves_of(records: &[u8], ways: &[u8; 255], kind: u8, r: usize) -> u8
+fn moves_of(records: &[u8], ways: &[u8; layout::MOST_RECORDS], kind: u8, r: usize) -> u8
     requires { ⌜ AskedRecord (now records) r kind × Told (now records) r (now ways) ⌝ }
     ensures { λ x. ⌜ MovesTold (now (records .entry)) r x ⌝ }
 {
-    if 8 <= kind {
+    if kind::CHOICE <= kind {
         let first = ways[layout::field_a(records, r)];
-        if kind == 10 {
+        if kind == kind::STAR {
             return first;
         }
         let second = ways[layout::field_b(records, r)];
         return first | second;
     }
-    if kind == 5 {
+    if kind == kind::STEP {
         return AHEAD;
     }
-    if kind == 6 {
+    if kind == kind::BACK {
         return BACK;
     }
     0
@@ -69,16 +70,16 @@ fn star_refusal(records: &[u8], kind: u8, moves: u8, r: usize) -> u8
     requires { ⌜ AskedRecord (now records) r kind × MovesTold (now records) r moves ⌝ }
     ensures { λ x. ⌜ x ≡ firstOf (ground12 (now (records .entry)) r ∷ ground11 (now (records .entry)) r ∷ []) ⌝ }
 {
-    if kind != 10 {
-        return 0;
+    if kind != kind::STAR {
+        return refusals::ACCEPTED;
     }
     if moves == AHEAD | BACK {
-        return 12;
+        return refusals::STAR_TURNS;
     }
     if may_stand(records, layout::field_a(records, r)) {
-        return 11;
+        return refusals::STAR_STANDS;
     }
-    0
+    refusals::ACCEPTED
 }
 
 // The first refusal of a star, stars from the first.
@@ -87,17 +88,17 @@ pub fn stars_refusal(records: &[u8]) -> u8
     ensures { λ x. ⌜ x ≡ firstOf (starGrounds (now (records .entry))) ⌝ }
 {
     let n = layout::record_count(records);
-    let mut ways = [0u8; 255];
+    let mut ways = [0u8; layout::MOST_RECORDS];
     let mut r: usize = 0;
     while r < n {
         let kind = layout::kind_at(records, r);
         let moves = moves_of(records, &ways, kind, r);
         let x = star_refusal(records, kind, moves, r);
-        if x != 0 {
+        if x != refusals::ACCEPTED {
             return x;
         }
         ways[r] = moves;
         r += 1;
     }
-    0
+    refusals::ACCEPTED
 }

@@ -15,7 +15,7 @@ use Rattle.meaning.proofs.Nodes.{path-node}
 use Rattle.records.specs.Code.{wayOf}
 use Rattle.records.proofs.Numbers.{move-kind, test-kind, join-kind, star-kind, path-number}
 use Rattle.records.proofs.Held.{path-first, join-second}
-use Rattle.translate.specs.Asking.{AskedPath}
+use Rattle.paths.specs.Asking.{AskedPath}
 
 -- What was told of the path a, said of the field b that names it.
 pub told : (Q : Path → Bool) (s : List ℕ) {x : Bool} {a b : ℕ} → a ≡ b → x ≡ Q (pathAt s a) → Q (pathAt s b) ≡ x

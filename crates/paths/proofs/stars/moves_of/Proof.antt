@@ -2,17 +2,14 @@
 -- tells of them.
 use native.Mathlib.Omega.{arith}
 use borrow.Author.Needs.{needs}
-use Rattle.translate.proofs.Moving.{first-part, second-part, star-moves, join-moves, step-moves, back-moves}
-use Rattle.translate.proofs.Moving.{test-moves}
-use Rattle.translate.proofs.stars.moves_of.Statement.{statement}
-use Rattle.translate.proofs.stars.moves_of.Tie as tie
+use Rattle.paths.proofs.Moving.{first-part, second-part, star-moves, join-moves, step-moves, back-moves}
+use Rattle.paths.proofs.Moving.{test-moves}
+use Rattle.paths.proofs.stars.moves_of.Statement.{statement}
+use Rattle.paths.proofs.stars.moves_of.Tie as tie
 
 -- ---- a path with parts
 abbrev start : tie.Then1 → tie.Start
 start c = c .before .before
-
-field-a-requires : tie.Need-field-a-requires
-field-a-requires c κs = search needs
 
 element-copy-out-first : tie.Need-element-copy-out-first
 element-copy-out-first c =
@@ -26,9 +23,6 @@ returns c =
     let one = first .before in
     let (w, told) = start one .pre in
     star-moves w (one .if1 .taken) told (c .if2 .taken) (first .field-a .ensures)
-
-field-b-requires : tie.Need-field-b-requires
-field-b-requires c κs = search needs
 
 element-copy-out-second : tie.Need-element-copy-out-second
 element-copy-out-second c =
@@ -62,10 +56,10 @@ pub moves-of-spec : {M : Type 1} → statement M
 moves-of-spec =
     tie.close
     (tie.spec
-    field-a-requires
+    (λ c κs. search needs)
     element-copy-out-first
     returns
-    field-b-requires
+    (λ c κs. search needs)
     element-copy-out-second
     returns-2
     returns-3

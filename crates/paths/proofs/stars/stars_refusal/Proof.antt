@@ -7,10 +7,10 @@ use borrow.Author.Needs.{needs}
 use Rattle.meaning.specs.Run.{each}
 use Rattle.meaning.specs.Refusal.{ground11, ground12, starGrounds}
 use Rattle.meaning.proofs.First.{Clear, scan-none, scan-more, scan-found, scan-done}
-use Rattle.translate.specs.Asking.{Told}
-use Rattle.translate.proofs.Moving.{told-none, told-more, grounds-clear}
-use Rattle.translate.proofs.stars.stars_refusal.Statement.{statement}
-use Rattle.translate.proofs.stars.stars_refusal.Tie as tie
+use Rattle.paths.specs.Asking.{Told}
+use Rattle.paths.proofs.Moving.{told-none, told-more, grounds-clear}
+use Rattle.paths.proofs.stars.stars_refusal.Statement.{statement}
+use Rattle.paths.proofs.stars.stars_refusal.Tie as tie
 
 abbrev Inv-loop : tie.InvT-loop
 Inv-loop s n ways₀ r₀ ways r = (r ≤ n) × Clear (each r (λ q. ground12 s q ∷ ground11 s q ∷ [])) × Told s r ways
@@ -18,20 +18,8 @@ Inv-loop s n ways₀ r₀ ways r = (r ≤ n) × Clear (each r (λ q. ground12 s 
 abbrev μ-loop : tie.MeasureT-loop
 μ-loop s n ways₀ r₀ ways r = n - r
 
-record-count-requires : tie.Need-record-count-requires Inv-loop μ-loop
-record-count-requires c κs = search needs
-
 loop-holds : tie.Need-loop-holds Inv-loop μ-loop
 loop-holds c = (omega arith, scan-none _, told-none _)
-
-kind-at-requires : tie.Need-kind-at-requires Inv-loop μ-loop
-kind-at-requires c κs = search needs
-
-moves-of-requires : tie.Need-moves-of-requires Inv-loop μ-loop
-moves-of-requires c κs = search needs
-
-star-refusal-requires : tie.Need-star-refusal-requires Inv-loop μ-loop
-star-refusal-requires c κs = search needs
 
 returns : tie.Need-returns Inv-loop μ-loop
 unfolding starGrounds
@@ -42,12 +30,6 @@ returns c =
 
 array-write-ways : tie.Need-array-write-ways Inv-loop μ-loop
 array-write-ways c = search needs
-
-add-r : tie.Need-add-r Inv-loop μ-loop
-add-r c = search needs
-
-loop-less : tie.Need-loop-less Inv-loop μ-loop
-loop-less c = search needs
 
 loop-again : tie.Need-loop-again Inv-loop μ-loop
 loop-again c =
@@ -67,14 +49,14 @@ stars-refusal-spec =
     (tie.spec
     Inv-loop
     μ-loop
-    record-count-requires
+    (λ c κs. search needs)
     loop-holds
-    kind-at-requires
-    moves-of-requires
-    star-refusal-requires
+    (λ c κs. search needs)
+    (λ c κs. search needs)
+    (λ c κs. search needs)
     returns
     array-write-ways
-    add-r
-    loop-less
+    (λ c. search needs)
+    (λ c. search needs)
     loop-again
     returns-2)

@@ -21,8 +21,8 @@ use Rattle.meaning.proofs.First.{Clear, none-clear}
 use Rattle.records.specs.Code.{wayOf}
 use Rattle.records.proofs.Stretches.{stretch, onward}
 use Rattle.records.proofs.Numbers.{formula-number, star-kind}
-use Rattle.translate.specs.Asking.{AskedPath, AskedRecord, bit, movesOf, MovesTold, Told}
-use Rattle.translate.proofs.Standing.{range, is-move, is-test, is-join, is-star, part-first, part-second}
+use Rattle.paths.specs.Asking.{AskedPath, AskedRecord, bit, movesOf, MovesTold, Told}
+use Rattle.paths.proofs.Standing.{range, is-move, is-test, is-join, is-star, part-first, part-second}
 
 -- ---- bits
 or-bit : (u v : Bool) → bitOr (bit u) (bit v) ≡ bit (u || v)

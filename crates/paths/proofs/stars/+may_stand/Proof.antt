@@ -11,17 +11,17 @@ use borrow.Fn.PlainCycle.{Measures, is, falls, and}
 use Rattle.meaning.specs.Record.{fieldB}
 use Rattle.meaning.specs.Formula.{mayStand}
 use Rattle.meaning.specs.Tree.{pathAt}
-use Rattle.translate.specs.Asking.{AskedPath}
-use Rattle.translate.proofs.Standing.{told, part-first, part-second, move-stands, test-stands, star-stands}
-use Rattle.translate.proofs.Standing.{join-stands}
-use Rattle.translate.proofs.stars.may_stand.Reads as may-stand
-use Rattle.translate.proofs.stars.may_stand.Kinds as may-stand-kinds
-use Rattle.translate.proofs.stars.+may_stand.Lts-may_stand as may-stand-lts
+use Rattle.paths.specs.Asking.{AskedPath}
+use Rattle.paths.proofs.Standing.{told, part-first, part-second, move-stands, test-stands, star-stands}
+use Rattle.paths.proofs.Standing.{join-stands}
+use Rattle.paths.proofs.stars.may_stand.Reads as may-stand
+use Rattle.paths.proofs.stars.may_stand.Kinds as may-stand-kinds
+use Rattle.paths.proofs.stars.+may_stand.Lts-may_stand as may-stand-lts
 use Rattle.records.proofs.layout.field_a.Reads as field-a-reads
 use Rattle.records.proofs.layout.field_b.Reads as field-b-reads
 use Rattle.records.proofs.layout.kind_at.Reads as kind-at-reads
-use Rattle.translate.proofs.stars.+may_stand.{statement}
-use Rattle.translate.proofs.stars.+may_stand.Tie.{close}
+use Rattle.paths.proofs.stars.+may_stand.{statement}
+use Rattle.paths.proofs.stars.+may_stand.Tie.{close}
 
 abbrev μ-may-stand : Measures 1 may-stand-kinds.ps ℕ
 μ-may-stand κs a = a .1 .0

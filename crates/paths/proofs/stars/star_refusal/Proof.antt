@@ -4,9 +4,9 @@ use mathlib.Core.Path.{refl, sym, _∙_}
 use native.Mathlib.Omega.{arith}
 use borrow.Author.Needs.{needs}
 use borrow.Author.Tests.{eq-eqb, ne-eqb}
-use Rattle.translate.proofs.Moving.{first-part, other-grounds, star-grounds}
-use Rattle.translate.proofs.stars.star_refusal.Statement.{statement}
-use Rattle.translate.proofs.stars.star_refusal.Tie as tie
+use Rattle.paths.proofs.Moving.{first-part, other-grounds, star-grounds}
+use Rattle.paths.proofs.stars.star_refusal.Statement.{statement}
+use Rattle.paths.proofs.stars.star_refusal.Tie as tie
 
 returns : tie.Need-returns
 returns c = other-grounds (c .before .before .pre .0) (c .if1 .taken)
@@ -16,9 +16,6 @@ returns-2 c =
     let one = c .before in
     let (w, told) = one .before .before .pre in
     sym (star-grounds w (one .if1 .left) told refl refl ∙ rw (eq-eqb _ 3 (c .if2 .taken)))
-
-field-a-requires : tie.Need-field-a-requires
-field-a-requires c κs = search needs
 
 may-stand-requires : tie.Need-may-stand-requires
 may-stand-requires c κs =
@@ -44,4 +41,4 @@ returns-4 c =
 
 pub star-refusal-spec : {M : Type 1} → statement M
 star-refusal-spec =
-    tie.close (tie.spec returns returns-2 field-a-requires may-stand-requires returns-3 returns-4)
+    tie.close (tie.spec returns returns-2 (λ c κs. search needs) may-stand-requires returns-3 returns-4)
