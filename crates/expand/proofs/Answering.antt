@@ -60,7 +60,7 @@ module _ (s : List ℕ) (A : ℕ) where
 module _ (s : List ℕ) (A : ℕ) (out : List ℕ) where
   abbrev Answers : ℕ → ℕ → List ℕ → Type 0
   Answers x n new =
-      (x ≡ expandAnswer s A out .refusal) × ((n ≡ expandAnswer s A out .count) × (new ≡ expandAfter s A out))
+      (x ≡ expandAnswer s A (length out) .refusal) × ((n ≡ expandAnswer s A (length out) .count) × (new ≡ expandAfter s A out))
 
   pub answers-refusal : {x : ℕ} → x ≡ firstOf (expandGrounds s A (length out)) → (x ≡ 0 → ⊥) → Answers x 0 out
   unfolding expandAnswer expandAfter

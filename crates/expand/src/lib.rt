@@ -3,6 +3,7 @@ mod steps;
 mod write;
 
 ghost use mathlib.Core.Path.{_≡_};
+ghost use lib.ListN.{length};
 ghost use Rattle.meaning.specs.Service.{expandAnswer, expandAfter};
 use checks::refusal;
 use records::layout;
@@ -16,8 +17,8 @@ pub struct Counted {
 
 // The first refusal that applies; or the formula in core kinds, its records in postorder.
 pub fn expand(records: &[u8], atoms: u64, out: &mut [u8]) -> Counted
-    ensures refusal { λ v. ⌜ v .refusal ≡ expandAnswer (now (records .entry)) atoms (now (out .entry)) .refusal ⌝ }
-    ensures count { λ v. ⌜ v .count ≡ expandAnswer (now (records .entry)) atoms (now (out .entry)) .count ⌝ }
+    ensures refusal { λ v. ⌜ v .refusal ≡ expandAnswer (now (records .entry)) atoms (length (now (out .entry))) .refusal ⌝ }
+    ensures count { λ v. ⌜ v .count ≡ expandAnswer (now (records .entry)) atoms (length (now (out .entry))) .count ⌝ }
     ensures bytes { λ v. ⌜ now (out .exit) ≡ expandAfter (now (records .entry)) atoms (now (out .entry)) ⌝ }
 {
     let refusal = refusal::formula_refusal(records, true, atoms);

@@ -10,6 +10,7 @@ use mathlib.Core.Path.{_≡_}
 use mathlib.Core.List.{List, [], _∷_, _++_}
 use lib.ListN.{length, drop, replicate}
 use Rattle.meaning.specs.Record.{count, recordBytes}
+use Rattle.meaning.specs.Rule.{ruleSize}
 use Rattle.meaning.specs.Service.{Counted, expandAnswer, expandAfter, valueAnswer, valueAfter, translateAnswer, translateAfter}
 
 -- ---- what an example says; the lent buffers hold 7 before
@@ -20,18 +21,18 @@ abbrev room : ℕ → List ℕ
 room n = replicate n 7
 
 pub record Expands (short long : List ℕ) (A : ℕ) : Type 0 where
-  pub answer : expandAnswer short A (room (length long)) ≡ counted 0 (count long)
+  pub answer : expandAnswer short A (length long) ≡ counted 0 (count long)
   pub records : expandAfter short A (room (length long)) ≡ long
 
 pub record Worth (s : List ℕ) (A L : ℕ) (cells row : List ℕ) : Type 0 where
-  pub accepted : valueAnswer s A L cells (room (count s * L)) .refusal ≡ 0
+  pub accepted : valueAnswer s A L cells (count s * L) .refusal ≡ 0
   pub values : drop (pred (count s) * L) (valueAfter s A L cells (room (count s * L))) ≡ row
 
 abbrev pub Rules : List ℕ → ℕ → ℕ → Type 0
-Rules s A n = translateAnswer s A (room (6 * n)) ≡ counted 0 n
+Rules s A n = translateAnswer s A (ruleSize * n) ≡ counted 0 n
 
 abbrev pub Refused : List ℕ → ℕ → ℕ → Type 0
-Refused s A number = translateAnswer s A [] ≡ counted number 0
+Refused s A number = translateAnswer s A 0 ≡ counted number 0
 
 -- ---- the formulas: p is atom 0, q is atom 1
 abbrev p : List ℕ

@@ -1,6 +1,7 @@
 -- Document 01, The four services: the complete outcome of each, on every input.
 --   checkAnswer ..                  the refusal's number, 0 if accepted
---   expandAnswer .., expandAfter ..  what the service returns, and what stands in the lent buffer afterwards; so for value and translate
+--   expandAnswer .., expandAfter ..  what the service returns, by the room that it has, and what is in the lent buffer afterwards; so for
+--                                   value and translate
 --   judgeAnswer ..                  what the judge returns; it lends nothing
 -- A refusal returns its number, other numbers 0, and leaves the buffer as it was.
 use Prim.Native.Nat.{ℕ, pred}
@@ -30,13 +31,13 @@ pub record Counted : Type 0 where
   pub refusal : ℕ
   pub count : ℕ
 
-unfoldable pub expandAnswer : List ℕ → ℕ → List ℕ → Counted
-expandAnswer s A out =
-    let refusal = firstOf (expandGrounds s A (length out)) in
+unfoldable pub expandAnswer : List ℕ → ℕ → ℕ → Counted
+expandAnswer s A room =
+    let refusal = firstOf (expandGrounds s A room) in
     record { refusal = refusal; count = accepted refusal (wholeForm s) 0 }
 
 unfoldable pub expandAfter : List ℕ → ℕ → List ℕ → List ℕ
-expandAfter s A out = accepted (expandAnswer s A out .refusal) (written (postorder (formAt s (pred (count s)))) out) out
+expandAfter s A out = accepted (expandAnswer s A (length out) .refusal) (written (postorder (formAt s (pred (count s)))) out) out
 
 -- ---- value
 pub record Valued : Type 0 where
@@ -54,22 +55,22 @@ rowOf s A L cells r = rowBy (sortOf (kindAt s r)) (valueOf L (cellOf A cells) (f
 unfoldable pub table : List ℕ → ℕ → ℕ → List ℕ → List ℕ
 table s A L cells = each (count s) (λ r. tabulate L (rowOf s A L cells r))
 
-unfoldable pub valueAnswer : List ℕ → ℕ → ℕ → List ℕ → List ℕ → Valued
-valueAnswer s A L cells out =
-    let refusal = firstOf (valueGrounds s A L cells (length out)) in
+unfoldable pub valueAnswer : List ℕ → ℕ → ℕ → List ℕ → ℕ → Valued
+valueAnswer s A L cells room =
+    let refusal = firstOf (valueGrounds s A L cells room) in
     record { refusal = refusal; value = accepted refusal (valueOf L (cellOf A cells) (formAt s (pred (count s))) 0) 0 }
 
 unfoldable pub valueAfter : List ℕ → ℕ → ℕ → List ℕ → List ℕ → List ℕ
-valueAfter s A L cells out = accepted (valueAnswer s A L cells out .refusal) (written (table s A L cells) out) out
+valueAfter s A L cells out = accepted (valueAnswer s A L cells (length out) .refusal) (written (table s A L cells) out) out
 
 -- ---- translate
-unfoldable pub translateAnswer : List ℕ → ℕ → List ℕ → Counted
-translateAnswer s A out =
-    let refusal = firstOf (translateGrounds s A (length out)) in
+unfoldable pub translateAnswer : List ℕ → ℕ → ℕ → Counted
+translateAnswer s A room =
+    let refusal = firstOf (translateGrounds s A room) in
     record { refusal = refusal; count = accepted refusal (length (translation s A)) 0 }
 
 unfoldable pub translateAfter : List ℕ → ℕ → List ℕ → List ℕ
-translateAfter s A out = accepted (translateAnswer s A out .refusal) (written (words (translation s A)) out) out
+translateAfter s A out = accepted (translateAnswer s A (length out) .refusal) (written (words (translation s A)) out) out
 
 -- ---- judge
 pub record Judged : Type 0 where

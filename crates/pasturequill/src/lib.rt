@@ -1,6 +1,7 @@
 // The front door: the services as a C program calls them. No function here has a `requires`; each states its complete outcome,
 // the answer and every lent buffer, on every input. Document 01's words for these are in the crate `meaning`, in specs/Service.
 ghost use mathlib.Core.Path.{_≡_};
+ghost use lib.ListN.{length};
 ghost use Rattle.meaning.specs.Service.{checkAnswer, expandAnswer, expandAfter, valueAnswer, valueAfter, translateAnswer, translateAfter, judgeAnswer};
 use judge::Judged;
 use translate::Counted;
@@ -17,8 +18,8 @@ pub extern "C" fn pasturequill_check(records: &[u8], atoms: u64) -> u8
 // Expand: the number of records of the formula in core kinds, and in the output these records in postorder, six bytes each.
 #[no_mangle]
 pub extern "C" fn pasturequill_expand(records: &[u8], atoms: u64, out: &mut [u8]) -> expand::Counted
-    ensures refusal { λ v. ⌜ v .refusal ≡ expandAnswer (now (records .entry)) atoms (now (out .entry)) .refusal ⌝ }
-    ensures count { λ v. ⌜ v .count ≡ expandAnswer (now (records .entry)) atoms (now (out .entry)) .count ⌝ }
+    ensures refusal { λ v. ⌜ v .refusal ≡ expandAnswer (now (records .entry)) atoms (length (now (out .entry))) .refusal ⌝ }
+    ensures count { λ v. ⌜ v .count ≡ expandAnswer (now (records .entry)) atoms (length (now (out .entry))) .count ⌝ }
     ensures bytes { λ v. ⌜ now (out .exit) ≡ expandAfter (now (records .entry)) atoms (now (out .entry)) ⌝ }
 {
     expand::expand(records, atoms, out)
@@ -33,8 +34,8 @@ pub extern "C" fn pasturequill_value(
     cells: &[u8],
     table: &mut [u8],
 ) -> Valued
-    ensures refusal { λ v. ⌜ v .refusal ≡ valueAnswer (now (records .entry)) atoms instants (now (cells .entry)) (now (table .entry)) .refusal ⌝ }
-    ensures value { λ v. ⌜ v .value ≡ valueAnswer (now (records .entry)) atoms instants (now (cells .entry)) (now (table .entry)) .value ⌝ }
+    ensures refusal { λ v. ⌜ v .refusal ≡ valueAnswer (now (records .entry)) atoms instants (now (cells .entry)) (length (now (table .entry))) .refusal ⌝ }
+    ensures value { λ v. ⌜ v .value ≡ valueAnswer (now (records .entry)) atoms instants (now (cells .entry)) (length (now (table .entry))) .value ⌝ }
     ensures table { λ v. ⌜ now (table .exit) ≡ valueAfter (now (records .entry)) atoms instants (now (cells .entry)) (now (table .entry)) ⌝ }
 {
     value::value(records, atoms, instants, cells, table)
@@ -43,8 +44,8 @@ pub extern "C" fn pasturequill_value(
 // Translate: the number of rules, and in the output each rule's six words; the last rule asserts the whole formula.
 #[no_mangle]
 pub extern "C" fn pasturequill_translate(records: &[u8], atoms: u64, rules: &mut [u16]) -> Counted
-    ensures refusal { λ v. ⌜ v .refusal ≡ translateAnswer (now (records .entry)) atoms (now (rules .entry)) .refusal ⌝ }
-    ensures count { λ v. ⌜ v .count ≡ translateAnswer (now (records .entry)) atoms (now (rules .entry)) .count ⌝ }
+    ensures refusal { λ v. ⌜ v .refusal ≡ translateAnswer (now (records .entry)) atoms (length (now (rules .entry))) .refusal ⌝ }
+    ensures count { λ v. ⌜ v .count ≡ translateAnswer (now (records .entry)) atoms (length (now (rules .entry))) .count ⌝ }
     ensures words { λ v. ⌜ now (rules .exit) ≡ translateAfter (now (records .entry)) atoms (now (rules .entry)) ⌝ }
 {
     translate::translate(records, atoms, rules)

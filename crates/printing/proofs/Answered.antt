@@ -69,7 +69,7 @@ module _ (s : List ℕ) where
     ]
   ]
 
-  module _ {x : ℕ} (answered : x ≡ translateAnswer s mostAtoms room .refusal) where
+  module _ {x : ℕ} (answered : x ≡ translateAnswer s mostAtoms (length room) .refusal) where
     is-refusal : x ≡ refusal
     unfolding translateAnswer
     is-refusal = answered ∙ rw (length-replicate {A = ℕ} (ruleSize * mostRules) 0)
@@ -78,7 +78,7 @@ module _ (s : List ℕ) where
     unfolding printed
     printed-refused n = rw (← is-refusal, ne-eqb x 0 n)
 
-    module _ {n : ℕ} (counted : n ≡ translateAnswer s mostAtoms room .count) (none : x ≡ 0) where
+    module _ {n : ℕ} (counted : n ≡ translateAnswer s mostAtoms (length room) .count) (none : x ≡ 0) where
       all-counted : n ≡ rules
       unfolding translateAnswer
       all-counted = counted ∙ rw (eq-eqb _ 0 (sym answered ∙ none))

@@ -107,9 +107,9 @@ module _ {s : List ℕ} {A L : ℕ} {cells : List ℕ} (accepted : Accepted s A)
       simp clear-append
       ((bytes, (sizes, tree)), (cells-clear cells (trace .low), (le-ltb room (count s * L) enough, tt)))
 
-  value-given : valueAnswer s A L cells (replicate (count s * L) 0) .value ≡ value
+  value-given : valueAnswer s A L cells (count s * L) .value ≡ value
   unfolding valueAnswer
-  value-given = rw (length-replicate, clear-none _ (value-clear (count s * L) (le-refl _)))
+  value-given = rw (clear-none _ (value-clear (count s * L) (le-refl _)))
 
   -- Where all rules hold, all but the last do.
   others-met : (f : List ℕ) → AllHold ws L (cellOf W f) → Meets s A L f

@@ -49,12 +49,12 @@ module _ (s : List ℕ) (A : ℕ) where
       (omega arith, (omega arith, numbered-append (treeGrounds true s A) _ (tree-numbered true s A) (omega arith)))
 
   module _ (out : List ℕ) where
-    accepted-fits : expandAnswer s A out .refusal ≡ 0 → Fitting (length out)
+    accepted-fits : expandAnswer s A (length out) .refusal ≡ 0 → Fitting (length out)
     unfolding expandAnswer
     accepted-fits e = fitting-clear (length out) .0 (none-clear _ (grounds-numbered (length out)) e)
 
     -- Then it gives the count of the expansion's records, and writes them.
-    fits-answer : Fitting (length out) → expandAnswer s A out ≡ given (wholeForm s)
+    fits-answer : Fitting (length out) → expandAnswer s A (length out) ≡ given (wholeForm s)
     unfolding expandAnswer
     fits-answer f = rw (clear-none _ (fitting-clear (length out) .1 f))
 
@@ -101,7 +101,7 @@ module _ (full : Bool) (F : Form) (A : ℕ) (low : formAtoms F ≤ A) where
   written-tree = ap asForm (written-block .tree)
 
 -- ---- expanding
-module _ (s : List ℕ) (A : ℕ) (out : List ℕ) (taken : expandAnswer s A out .refusal ≡ 0) where
+module _ (s : List ℕ) (A : ℕ) (out : List ℕ) (taken : expandAnswer s A (length out) .refusal ≡ 0) where
   -- The formula, and what acceptance gives of it.
   abbrev whole : Form
   whole = formAt s (pred (count s))

@@ -17,7 +17,7 @@ use Rattle.meaning.proofs.Accepted.{starred-numbered}
 use Rattle.meaning.proofs.RuleCount.{words-length}
 use Rattle.theorems.specs.Demand3.{Accepted}
 
-module _ (s : List ℕ) (A : ℕ) (out : List ℕ) (e : translateAnswer s A out .refusal ≡ 0) where
+module _ (s : List ℕ) (A : ℕ) (out : List ℕ) (e : translateAnswer s A (length out) .refusal ≡ 0) where
   taken : Accepted s A
   unfolding translateAnswer translateGrounds ground10
   taken =
@@ -25,15 +25,15 @@ module _ (s : List ℕ) (A : ℕ) (out : List ℕ) (e : translateAnswer s A out 
       let n = numbered-append (starredGrounds s A) last (starred-numbered s A) (omega arith, tt) in
       clear-none (starredGrounds s A) (clear-append (starredGrounds s A) last .0 (none-clear _ n e) .0)
 
-  counted : translateAnswer s A out .count ≡ length (translation s A)
+  counted : translateAnswer s A (length out) .count ≡ length (translation s A)
   unfolding translateAnswer
   counted = rw (eq-eqb _ 0 e)
 
-  words-first : take (ruleSize * translateAnswer s A out .count) (translateAfter s A out) ≡ words (translation s A)
+  words-first : take (ruleSize * translateAnswer s A (length out) .count) (translateAfter s A out) ≡ words (translation s A)
   unfolding translateAfter written
   words-first =
       rw (eq-eqb _ 0 e, counted, sym (words-length (translation s A))) (take-append-seam (words (translation s A)) _)
 
   pub words-written : Accepted s A
-      × (take (ruleSize * translateAnswer s A out .count) (translateAfter s A out) ≡ words (translation s A))
+      × (take (ruleSize * translateAnswer s A (length out) .count) (translateAfter s A out) ≡ words (translation s A))
   words-written = (taken, words-first)

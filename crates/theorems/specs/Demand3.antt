@@ -38,8 +38,8 @@ pub record OneFilling (s : List ℕ) (A L : ℕ) (cells : List ℕ) : Type 0 whe
 
 pub record Demand3 : Type 0 where
   -- Where the translator refuses nothing, the formula is accepted, and the rules' words stand at the output's start.
-  pub written : (s : List ℕ) (A : ℕ) (out : List ℕ) → translateAnswer s A out .refusal ≡ 0
-      → Accepted s A × (take (ruleSize * translateAnswer s A out .count) (translateAfter s A out) ≡ words (translation s A))
+  pub written : (s : List ℕ) (A : ℕ) (out : List ℕ) → translateAnswer s A (length out) .refusal ≡ 0
+      → Accepted s A × (take (ruleSize * translateAnswer s A (length out) .count) (translateAfter s A out) ≡ words (translation s A))
   pub one-filling : (s : List ℕ) (A L : ℕ) (cells : List ℕ) → Accepted s A → Trace A L cells → OneFilling s A L cells
   -- So many rules come from each record, and one asserts the whole formula: at most 4 n + 1.
   pub counted : (s : List ℕ) (A : ℕ) → length (translation s A) ≡ ruleSum s (count s) + 1

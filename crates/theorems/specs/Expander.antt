@@ -17,7 +17,7 @@ expanded s = postorder (formAt s (pred (count s)))
 pub record Expanding (s : List ℕ) (A : ℕ) (out : List ℕ) : Type 0 where
   -- The expanded records stand at the buffer's start, and the answer has their count.
   pub output : expandAfter s A out ≡ written (expanded s) out
-  pub records : count (expanded s) ≡ expandAnswer s A out .count
+  pub records : count (expanded s) ≡ expandAnswer s A (length out) .count
   -- Check accepts them, so there is no shorthand among them.
   pub accepted : checkAnswer (expanded s) A ≡ 0
   -- The tree of a record that was read is the node of its kind over its children's trees, of a shorthand its expansion;
@@ -26,11 +26,11 @@ pub record Expanding (s : List ℕ) (A : ℕ) (out : List ℕ) : Type 0 where
   pub same-tree : formAt (expanded s) (pred (count (expanded s))) ≡ formAt s (pred (count s))
   -- Expanding them gives the same answer, and writes them again, wherever there is room.
   pub again : (buffer : List ℕ) → length (expanded s) ≤ length buffer
-      → expandAnswer (expanded s) A buffer ≡ expandAnswer s A out
+      → expandAnswer (expanded s) A (length buffer) ≡ expandAnswer s A (length out)
   pub unchanged : (buffer : List ℕ) → length (expanded s) ≤ length buffer
       → expandAfter (expanded s) A buffer ≡ written (expanded s) buffer
 
 pub record Expander : Type 0 where
-  pub expanding : (s : List ℕ) (A : ℕ) (out : List ℕ) → expandAnswer s A out .refusal ≡ 0 → Expanding s A out
+  pub expanding : (s : List ℕ) (A : ℕ) (out : List ℕ) → expandAnswer s A (length out) .refusal ≡ 0 → Expanding s A out
   -- There is such an input: p until q, which takes 7 records.
-  pub taken : expandAnswer untilShort 2 (replicate 42 7) .refusal ≡ 0
+  pub taken : expandAnswer untilShort 2 42 .refusal ≡ 0

@@ -35,4 +35,4 @@ pub record Standing : Type 0 where
 pub record Agreement : Type 0 where
   pub agrees : (s : List ℕ) (A L : ℕ) (cells : List ℕ) → Accepted s A → Trace A L cells → (one : OneFilling s A L cells)
       → (judgeAnswer (words (translation s A)) (A + count s) L (one .filling) ≡ judged 0 1 0 0)
-      ↔ (valueAnswer s A L cells (replicate (count s * L) 0) .value ≡ 2)
+      ↔ (valueAnswer s A L cells (count s * L) .value ≡ 2)

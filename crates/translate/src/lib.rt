@@ -29,8 +29,8 @@ pub struct Counted {
 
 // The first refusal that applies; or the rules of the formula, six words each.
 pub fn translate(records: &[u8], atoms: u64, out: &mut [u16]) -> Counted
-    ensures refusal { λ v. ⌜ v .refusal ≡ translateAnswer (now (records .entry)) atoms (now (out .entry)) .refusal ⌝ }
-    ensures count { λ v. ⌜ v .count ≡ translateAnswer (now (records .entry)) atoms (now (out .entry)) .count ⌝ }
+    ensures refusal { λ v. ⌜ v .refusal ≡ translateAnswer (now (records .entry)) atoms (length (now (out .entry))) .refusal ⌝ }
+    ensures count { λ v. ⌜ v .count ≡ translateAnswer (now (records .entry)) atoms (length (now (out .entry))) .count ⌝ }
     ensures words { λ v. ⌜ now (out .exit) ≡ translateAfter (now (records .entry)) atoms (now (out .entry)) ⌝ }
 {
     let refusal = first_refusal(records, atoms);

@@ -24,8 +24,8 @@ pub struct Valued {
 
 // The first refusal that applies; or the values of all records in the table, a row each.
 pub fn value(records: &[u8], atoms: u64, instants: u64, cells: &[u8], out: &mut [u8]) -> Valued
-    ensures refusal { λ v. ⌜ v .refusal ≡ valueAnswer (now (records .entry)) atoms instants (now (cells .entry)) (now (out .entry)) .refusal ⌝ }
-    ensures value { λ v. ⌜ v .value ≡ valueAnswer (now (records .entry)) atoms instants (now (cells .entry)) (now (out .entry)) .value ⌝ }
+    ensures refusal { λ v. ⌜ v .refusal ≡ valueAnswer (now (records .entry)) atoms instants (now (cells .entry)) (length (now (out .entry))) .refusal ⌝ }
+    ensures value { λ v. ⌜ v .value ≡ valueAnswer (now (records .entry)) atoms instants (now (cells .entry)) (length (now (out .entry))) .value ⌝ }
     ensures table { λ v. ⌜ now (out .exit) ≡ valueAfter (now (records .entry)) atoms instants (now (cells .entry)) (now (out .entry)) ⌝ }
 {
     let refusal = first_refusal(records, atoms, instants, cells, out.len());
