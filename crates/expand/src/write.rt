@@ -5,7 +5,7 @@ ghost use mathlib.Core.Bool.{true};
 ghost use Prim.Native.Nat.{_*_, _<_, _≤_};
 ghost use lib.ListN.{length, take};
 ghost use lib.Seq.{sets};
-ghost use Rattle.meaning.specs.Record.{recordSize, mostRecords, recordBytes, kindAt};
+ghost use Rattle.meaning.specs.Record.{recordSize, mostRecords, kindAt};
 ghost use Rattle.expand.specs.Asking.{Asked, bytesAt, sizeAt, stepBytes, stepCount, fits, many, Wrote};
 use crate::steps;
 use records::layout;

@@ -51,7 +51,7 @@ pub fn judge(rules: &[u16], width: u64, instants: u64, cells: &[u8]) -> Judged
     first_failure(rules, width as usize, instants as usize, cells)
 }
 
-// Conditions in document 01's order: 8, 13, 9.
+// Conditions in the specification's order: 8, 13, 9.
 fn first_refusal(rules: &[u16], width: u64, instants: u64, cells: &[u8]) -> u8
     ensures { λ x. ⌜ x ≡ firstOf (judgeGrounds (now (rules .entry)) width instants (now (cells .entry))) ⌝ }
 {

@@ -1,4 +1,4 @@
--- Document 01, Examples by letter: those that speak of values, rule counts and refusals, from their record bytes through the definitions.
+-- Specification, Examples: those that speak of values, rule counts and refusals, from their record bytes through the definitions.
 --   Expands short long          the expander takes `short` to the records `long`
 --   Worth s A L cells row       valuing accepts, and the whole formula has the values `row`
 --   Rules s A n                 the translator accepts, and gives n rules

@@ -1,4 +1,4 @@
--- Document 01, Records: formulas F and paths P.
+-- Specification, Records: formulas F and paths P.
 --   mayStand p     whether the path may stand still
 --   goes way p     whether the path has a step (ahead) or a back step (back) of its own
 use Prim.Native.Nat.{ℕ}

@@ -1,4 +1,4 @@
--- Document 01, Judging rules: the first rule that fails, and its first failing instant.
+-- Specification, Judging: the first rule that fails, and its first failing instant.
 --   failures ws L cell    the pairs of a rule and one of its instants where it fails, rules in order, instants in order
 --   verdict ..            yes, or the first of these pairs
 --   AllHold ..            every rule holds at all its instants: what a yes means (proofs/Judging)

@@ -1,4 +1,4 @@
--- Document 01 as definitions, a module for each of its sections. To be read in this order.
+-- The specification as definitions, a module for each of its sections. To be read in this order.
 pub mod Three
 pub mod Run
 pub mod Record

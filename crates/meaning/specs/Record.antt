@@ -1,4 +1,4 @@
--- Document 01, Records: where a record's bytes stand, its kind, its sort, and what its two fields are.
+-- Specification, Records: where a record's bytes stand, its kind, its sort, and what its two fields are.
 -- A formula is a list s of bytes; its records are numbered from 0.
 --   recordSize, mostRecords     6 bytes a record, at most 255 records
 --   count s                     how many records s has

@@ -1,4 +1,4 @@
--- Document 01, Numbers given back: each condition by its number, each service's order as a list of them.
+-- Specification, Refusals: each condition by its number, each service's order as a list of them.
 --   Ground            a number to give back, and whether it applies
 --   firstOf grounds   the number of the first that applies, 0 if none does
 --   ground1 ..        the conditions, s being the record bytes, r a record, A the number of atoms

@@ -1,4 +1,4 @@
--- Document 01, Translation: rules as six words, and when a rule holds.
+-- Specification, Translation: rules as six words, and when a rule holds.
 --   rule place body head    a rule; words that it leaves unused hold 1 in the body and 0 in the head
 --   words rules             the six words of each, end to end
 --   ruleAt ws i             rule i of the words ws

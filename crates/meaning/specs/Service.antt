@@ -1,4 +1,4 @@
--- Document 01, The four services: the complete outcome of each, on every input.
+-- Specification: the complete outcome of each service, on every input.
 --   checkAnswer ..                  the refusal's number, 0 if accepted
 --   expandAnswer .., expandAfter ..  what the service returns, by the room that it has, and what is in the lent buffer afterwards; so for
 --                                   value and translate

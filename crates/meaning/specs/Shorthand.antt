@@ -1,4 +1,4 @@
--- Document 01, Records: what each shorthand stands for. F and G are its arguments.
+-- Specification, Records: what each shorthand stands for. F and G are its arguments.
 use mathlib.Core.Bool.{true, false}
 use Rattle.meaning.specs.Record.{Shorthand, negated, both, either, implies, end, beside, along, until, since, diamond, box, ahead, back}
 use Rattle.meaning.specs.Formula.{Form, constant, modal, move, test, choice, sequence, star}

@@ -1,4 +1,4 @@
--- Document 01, Values: the three values 0 (false), 1 (there only) and 2 (here), and what is made of them.
+-- Specification, Values: the three values 0 (false), 1 (there only) and 2 (here), and what is made of them.
 --   imp u v         the implication of v by u
 --   negation u      2 where u is 0, else 0
 --   greatest n f    the greatest of f 0 .. f (n - 1); 0 if there is none

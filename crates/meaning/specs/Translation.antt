@@ -1,4 +1,4 @@
--- Document 01, Translation: the rules of each record, and of the whole formula.
+-- Specification, Translation: the rules of each record, and of the whole formula.
 --   label A r           the symbol of record r's label
 --   context s r         what the path record r stands under: the modality's mode, and the record whose label continues it
 --   rulesOf ..          the rules of one record

@@ -1,4 +1,4 @@
--- Document 01, Records: the tree that a record stands for, and a tree written as records in postorder.
+-- Specification, Records: the tree that a record stands for, and a tree written as records in postorder.
 --   formAt s r, pathAt s r    the formula, or the path, of record r, with its shorthands written out
 --   formSize F, pathSize P    how many records they take
 --   postorder F               the records of F: those of a, those of b, then the parent

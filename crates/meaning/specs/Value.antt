@@ -1,4 +1,4 @@
--- Document 01, Values: what a formula is worth at an instant, and a path from one instant to another, over L instants.
+-- Specification, Values: what a formula is worth at an instant, and a path from one instant to another, over L instants.
 --   valueOf L cell F k      the value of the formula F at instant k; cell k i is the value of atom i there
 --   squareOf L cell P k j   the value of the path P from k to j
 use Prim.Native.Nat.{ℕ, zero, suc, _+_, min, max}

@@ -1,4 +1,4 @@
--- Document 01, Records: what it is for bytes to be the records of a formula over A atoms. The checks refuse everything else, and
+-- Specification, Records: what it is for bytes to be the records of a formula over A atoms. The checks refuse everything else, and
 -- nothing else (proofs/Accepted).
 --   Fits s A r use v        a field of record r that is used so may hold v
 --   WellFormed full s A     the records are a tree; `full` is true where shorthands may stand in it

@@ -1,4 +1,4 @@
--- What each shorthand of document 01 is worth, by the values of its arguments: what its name says, over every trace.
+-- What each shorthand of the specification is worth, by the values of its arguments: what its name says, over every trace.
 --   greatestIn a b f, leastIn a b f     the greatest and the least of f a .. f (b - 1); 0 and 2 if there is none
 --   after L f k else, before f k else   f at the next instant, at the previous one; `else` where there is none
 --   Means L f g k worth                 what each shorthand is worth at instant k if its arguments F and G are worth f and g

@@ -1,5 +1,5 @@
 // The front door: the services as a C program calls them. No function here has a `requires`; each states its complete outcome,
-// the answer and every lent buffer, on every input. Document 01's words for these are in the crate `meaning`, in specs/Service.
+// the answer and every lent buffer, on every input. The specification's words for these are in the crate `meaning`, in specs/Service.
 ghost use mathlib.Core.Path.{_≡_};
 ghost use lib.ListN.{length};
 ghost use Rattle.meaning.specs.Service.{checkAnswer, expandAnswer, expandAfter, valueAnswer, valueAfter, translateAnswer, translateAfter, judgeAnswer};

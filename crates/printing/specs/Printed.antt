@@ -1,4 +1,4 @@
--- Document 01, Examples by letter: what the program prints for the record bytes s, over 32 atoms.
+-- Specification, The printing program: what it prints for the record bytes s, over 32 atoms.
 --   ascii t       the bytes of the text t
 --   decimal n     n in decimal
 --   told n end    n in decimal and the byte behind it

@@ -12,7 +12,7 @@ use lib.Dec.{eqb}
 use lib.ListN.{length}
 use borrow.Author.Tests.{eqb-true, eqb-false}
 use Rattle.meaning.specs.Record.{Way}
-use Rattle.meaning.specs.Value.{Square, moveSquare, passes, starSquare}
+use Rattle.meaning.specs.Value.{Square, passes, starSquare}
 use Rattle.meaning.proofs.Bounds.{le-or-lt, le-above}
 use Rattle.meaning.proofs.Onward.{move-bound}
 use Rattle.meaning.proofs.Reach.{Beside, beside-one, move-beside, sequence-elim}

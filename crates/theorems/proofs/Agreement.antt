@@ -8,7 +8,7 @@ use mathlib.Core.List.{List, [], _∷_}
 use mathlib.Core.Logic.{_↔_, Iff·trans}
 use native.Mathlib.Nat.{le-refl}
 use native.Mathlib.Omega.{arith}
-use lib.ListN.{length, getD, replicate, length-replicate}
+use lib.ListN.{length, getD}
 use borrow.Author.Tests.{le-ltb}
 use Rattle.meaning.specs.Run.{each, cellOf}
 use Rattle.meaning.specs.Record.{count}

@@ -1,5 +1,5 @@
 -- A square tells a relation of instants, that of being worth at least v, and a row a set of them; v is 1 or 2. What
--- document 01 makes of squares and rows tells what definition 1 of source 004 makes of relations and sets: v is at most
+-- the specification makes of squares and rows tells what definition 1 of source 004 makes of relations and sets: v is at most
 -- a greatest exactly if it is at most some member, and at most a least exactly if it is at most each. A box asks up to v
 -- and up to 1, and so does an implication of values.
 use Prim.Native.Nat.{ℕ, zero, suc, _<_, _≤_, max}

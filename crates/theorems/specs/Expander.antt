@@ -4,7 +4,7 @@
 use Prim.Native.Nat.{ℕ, pred, _<_, _≤_}
 use mathlib.Core.Path.{_≡_}
 use mathlib.Core.List.{List}
-use lib.ListN.{length, replicate}
+use lib.ListN.{length}
 use Rattle.meaning.specs.Run.{written}
 use Rattle.meaning.specs.Record.{count, kindAt, fieldA, fieldB}
 use Rattle.meaning.specs.Tree.{formAt, treeAt, nodeOf, postorder}

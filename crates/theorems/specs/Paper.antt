@@ -1,6 +1,6 @@
 -- Source 004, definition 1 and theorem 1: when a trace with two sets of atoms satisfies a formula, in that paper's terms,
--- and what the values of document 01 say of it. The numbers beside the equations are those of the definition's clauses,
--- taken over L instants and for document 01's kinds; so converse stands in the back step alone.
+-- and what the values of the specification say of it. The numbers beside the equations are those of the definition's clauses,
+-- taken over L instants and for the specification's kinds; so converse stands in the back step alone.
 --   HereThere              at each instant a set of atoms, here, within another, there
 --   total M                the trace that has M's second set for both
 --   Satisfies L M F k      M satisfies the formula F at the instant k

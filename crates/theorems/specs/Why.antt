@@ -7,7 +7,6 @@ use mathlib.Core.Path.{_≡_}
 use mathlib.Core.Bool.{false}
 use mathlib.Core.List.{List, [], _∷_}
 use mathlib.Core.Logic.{_↔_}
-use lib.ListN.{replicate}
 use Rattle.meaning.specs.Record.{count, Mode, diamond, back}
 use Rattle.meaning.specs.Formula.{Path, mayStand, goes}
 use Rattle.meaning.specs.Value.{Row, modalRow, starSquare, moveSquare, squareOf}

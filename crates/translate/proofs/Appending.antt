@@ -8,7 +8,7 @@ use native.Mathlib.Nat.{le-refl}
 use native.Mathlib.Numerals.{add-one}
 use native.Mathlib.Omega.{arith}
 use lib.ListN.{length, take, getD, length-append, length-map, length-take}
-use lib.Seq.{length-take-le, take-suc, length-sets}
+use lib.Seq.{take-suc, length-sets}
 use Rattle.meaning.specs.Run.{each, written}
 use Rattle.meaning.specs.Record.{count, kindAt}
 use Rattle.meaning.specs.Rule.{Rule, rule, ruleSize, words}
@@ -54,9 +54,6 @@ module _ {old mid : List ℕ} {at e : ℕ} {ρs : List Rule} (p : Put old at ρs
       }
 
 -- ---- rows
-pub rules-length : (rows : List (List ℕ)) (n : ℕ) → n ≤ length rows → length (rulesIn rows n) ≡ n
-rules-length rows n h = length-map (take n rows) ruleOf ∙ length-take-le n rows h
-
 -- One row more.
 pub rules-more : (rows : List (List ℕ)) (i : ℕ) (row : List ℕ) → i < length rows
     → rulesIn rows (i + 1) ≡ rulesIn rows i ++ (ruleOf (getD rows i row) ∷ [])

@@ -54,7 +54,7 @@ pub fn translate(records: &[u8], atoms: u64, out: &mut [u16]) -> Counted
     }
 }
 
-// Conditions in document 01's order, up to the stars: those of check, then 12 and 11 of each star.
+// Conditions in the specification's order, up to the stars: those of check, then 12 and 11 of each star.
 fn first_refusal(records: &[u8], atoms: u64) -> u8
     ensures { λ x. ⌜ x ≡ firstOf (starredGrounds (now (records .entry)) atoms) ⌝ }
 {

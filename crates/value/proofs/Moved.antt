@@ -7,12 +7,12 @@ use mathlib.Core.List.{List}
 use native.Mathlib.Nat.{le-refl, le-trans}
 use native.Mathlib.Omega.{arith}
 use Rattle.meaning.specs.Record.{Way, count, kindByte, fieldA, fieldB}
-use Rattle.meaning.specs.Value.{Square, moveSquare, testSquare, sequenceSquare}
+use Rattle.meaning.specs.Value.{Square, testSquare, sequenceSquare}
 use Rattle.meaning.specs.WellFormed.{WellFormed}
 use Rattle.meaning.proofs.Bounds.{le-above}
 use Rattle.meaning.proofs.Reach.{only-there, sequence-elim}
 use Rattle.records.specs.Code.{wayOf}
-use Rattle.records.proofs.Held.{test-first, path-first, join-second}
+use Rattle.records.proofs.Held.{path-first, join-second}
 use Rattle.squares.specs.Cells.{at, joinOf}
 use Rattle.squares.specs.Closing.{Moving}
 use Rattle.value.specs.Valuing.{Asked, Moves, PathSquare}

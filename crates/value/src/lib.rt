@@ -39,7 +39,7 @@ pub fn value(records: &[u8], atoms: u64, instants: u64, cells: &[u8], out: &mut 
     }
 }
 
-// Conditions in document 01's order: 1, 8, those of the records, 9, 10.
+// Conditions in the specification's order: 1, 8, those of the records, 9, 10.
 fn first_refusal(records: &[u8], atoms: u64, instants: u64, cells: &[u8], room: usize) -> u8
     ensures { λ x. ⌜ x ≡ firstOf (valueGrounds (now (records .entry)) atoms instants (now (cells .entry)) room) ⌝ }
 {

@@ -1,6 +1,5 @@
 -- `follow_move` meets its contract: each turn moves one more row, which is as it was.
-use Prim.Native.Nat.{_-_, _≤_}
-use mathlib.Core.Path.{_∙_}
+use Prim.Native.Nat.{_-_}
 use native.Mathlib.Nat.{le-refl}
 use native.Mathlib.Omega.{arith}
 use Rattle.meaning.specs.Value.{moveSquare, sequenceSquare}

@@ -1,5 +1,5 @@
 -- `lead_move` meets its contract: each turn makes one more row, of the row of the instant beside.
-use Prim.Native.Nat.{_-_, _≤_}
+use Prim.Native.Nat.{_-_}
 use native.Mathlib.Omega.{arith}
 use Rattle.meaning.specs.Value.{moveSquare, sequenceSquare}
 use Rattle.records.specs.Code.{wayOf}

@@ -1,5 +1,4 @@
 -- `lead_row` meets its contract: the test is the one of the rule.
-use native.Mathlib.Omega.{arith}
 use borrow.Author.Needs.{needs}
 use borrow.Author.Tests.{lt-ltb, le-ltb}
 use Rattle.squares.proofs.square.lead_row.Statement.{statement}

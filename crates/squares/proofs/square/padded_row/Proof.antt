@@ -2,7 +2,7 @@
 use Prim.Native.Nat.{_+_, _-_, _≤_}
 use mathlib.Core.Path.{refl, _∙_}
 use native.Mathlib.Omega.{arith}
-use lib.ListN.{replicate, getD-replicate}
+use lib.ListN.{getD-replicate}
 use Rattle.squares.specs.Cells.{at}
 use Rattle.squares.proofs.Stored.{Stored, stored-none, stored-more}
 use borrow.Author.Needs.{needs}

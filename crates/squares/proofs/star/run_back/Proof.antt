@@ -1,6 +1,6 @@
 -- `run_back` meets its contract: the rows below k are the star's, and row k needs row k - 1 alone.
 use Prim.Native.Nat.{_-_, _≤_, _<_}
-use mathlib.Core.Path.{_≡_, refl}
+use mathlib.Core.Path.{_≡_}
 use native.Mathlib.Omega.{arith}
 use lib.ListN.{length}
 use Rattle.meaning.specs.Record.{back}

@@ -1,5 +1,4 @@
 -- `moving_rows` meets its contract: two rules, and behind them the edge rule.
-use mathlib.Core.Path.{refl}
 use borrow.Author.Needs.{needs}
 use Rattle.translate.proofs.Rowing.{edge-words}
 use Rattle.translate.proofs.row.moving_rows.Statement.{statement}

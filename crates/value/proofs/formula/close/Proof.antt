@@ -3,7 +3,6 @@ use native.Mathlib.Omega.{arith}
 use Rattle.records.specs.Code.{wayOf}
 use Rattle.value.proofs.Moved.{square-moving}
 use Rattle.value.proofs.Recursion.{square-low, star-closed}
-use borrow.Author.Needs.{needs}
 use mathlib.Core.Path.{refl}
 use Rattle.value.proofs.formula.close.Statement.{statement}
 use Rattle.value.proofs.formula.close.Tie as tie

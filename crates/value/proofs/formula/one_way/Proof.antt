@@ -1,6 +1,6 @@
 -- `one_way` meets its contract: a move of the kind n with tests about it at record q is one at p too. The measure is q.
 use Prim.Native.Nat.{ℕ, _<_}
-use mathlib.Core.Path.{_≡_, refl, sym, _∙_}
+use mathlib.Core.Path.{_≡_, sym, _∙_}
 use mathlib.Core.Logic.{⊎-elim}
 use native.Mathlib.Omega.{arith}
 use Rattle.meaning.specs.Record.{count, kindByte}
