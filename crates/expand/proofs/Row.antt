@@ -11,7 +11,7 @@ use Rattle.meaning.specs.Record.{Kind, kinds, kindOf, argumentsOf, columnsOf}
 use Rattle.meaning.specs.Shorthand.{expansion}
 use Rattle.meaning.specs.Tree.{modalNumber, moveNumber}
 use Rattle.meaning.proofs.Fails.{and-holds}
-use Rattle.records.proofs.Stretches.{onward}
+use Rattle.records.proofs.Ranges.{onward}
 use Rattle.expand.specs.Steps.{partA, byte, formSteps, pathSteps, stepsOf, digits, rowOf, partUse}
 use Rattle.expand.specs.Asking.{isChild, isAtom, fits}
 

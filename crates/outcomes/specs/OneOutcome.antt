@@ -7,7 +7,7 @@
 --   OneFits ps r Post        two outcomes at the same arguments that both meet it are equal
 --   OneSquare ps r Post L s  two that both meet it have the same square s over L instants
 --   OneOutcome               so it is for each function that another crate or a C program can call
--- But for `printing::run`, which answers nothing and is lent nothing: no contract can say what it writes.
+-- But for `listing::run`, which answers nothing and is lent nothing: no contract can say what it writes.
 use Prim.Native.Nat.{ℕ, _<_}
 use mathlib.Core.Path.{_≡_}
 use mathlib.Core.List.{List}
@@ -28,7 +28,7 @@ use Rattle.squares.proofs.star as star
 use Rattle.value.proofs as value
 use Rattle.judge.proofs as judge
 use Rattle.translate.proofs as translate
-use Rattle.printing.proofs as printing
+use Rattle.listing.proofs as listing
 use Rattle.pasturequill.proofs as door
 
 module _ {n : ℕ} (ps : List (PK n)) (r : RK n) where
@@ -82,12 +82,12 @@ pub record OneOutcome : Type 0 where
   pub close : OneSquare star.close.Kinds.ps star.close.Kinds.r star.close.Reads.Post (λ κs a. a .1 .0) (λ κs a o. o .1 .0)
   pub run-on : OneSquare star.run_on.Kinds.ps star.run_on.Kinds.r star.run_on.Reads.Post (λ κs a. a .1 .0) (λ κs a o. o .1 .0)
   pub run-back : OneSquare star.run_back.Kinds.ps star.run_back.Kinds.r star.run_back.Reads.Post (λ κs a. a .1 .0) (λ κs a o. o .1 .0)
-  -- expand, value, judge, translate, printing
+  -- expand, value, judge, translate, listing
   pub expand : OneFits expand.expand.Kinds.ps expand.expand.Kinds.r expand.expand.Reads.Post
   pub value : OneFits value.value.Kinds.ps value.value.Kinds.r value.value.Reads.Post
   pub judge : OneFits judge.judge.Kinds.ps judge.judge.Kinds.r judge.judge.Reads.Post
   pub translate : OneFits translate.translate.Kinds.ps translate.translate.Kinds.r translate.translate.Reads.Post
-  pub text : OneFits printing.text.Kinds.ps printing.text.Kinds.r printing.text.Reads.Post
+  pub text : OneFits listing.text.Kinds.ps listing.text.Kinds.r listing.text.Reads.Post
   -- the front door
   pub pasturequill-check :
       OneFits door.pasturequill_check.Kinds.ps door.pasturequill_check.Kinds.r door.pasturequill_check.Reads.Post

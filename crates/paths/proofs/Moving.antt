@@ -19,7 +19,7 @@ use Rattle.meaning.specs.Refusal.{Ground, firstOf, isStar, ground11, ground12}
 use Rattle.meaning.proofs.Bounds.{le-or-lt}
 use Rattle.meaning.proofs.First.{Clear, none-clear}
 use Rattle.records.specs.Code.{wayOf}
-use Rattle.records.proofs.Stretches.{stretch, onward}
+use Rattle.records.proofs.Ranges.{stretch, onward}
 use Rattle.records.proofs.Numbers.{formula-number, star-kind}
 use Rattle.paths.specs.Asking.{AskedPath, AskedRecord, bit, movesOf, MovesTold, Told}
 use Rattle.paths.proofs.Standing.{range, is-move, is-test, is-join, is-star, part-first, part-second}

@@ -1,3 +1,3 @@
 fn main() {
-    printing::run();
+    listing::run();
 }

@@ -3,7 +3,7 @@ use Prim.Native.Nat.{ℕ, _<_, _≤_}
 use mathlib.Core.Path.{_≡_, refl}
 use native.Mathlib.Omega.{arith}
 use Rattle.meaning.specs.Record.{kinds, kindOf, Sort, formula, path, Use, unused, atomNumber, child, useA, useB, columnsOf}
-use Rattle.records.proofs.Stretches.{stretch}
+use Rattle.records.proofs.Ranges.{stretch}
 
 -- ---- a child
 module _ (n : ℕ) where

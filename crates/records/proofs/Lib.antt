@@ -1,4 +1,4 @@
 -- What the proofs of several functions cite.
-pub mod Stretches
+pub mod Ranges
 pub mod Numbers
 pub mod Held

@@ -13,7 +13,7 @@ use Rattle.meaning.specs.WellFormed.{WellFormed}
 use Rattle.meaning.proofs.Bounds.{le-or-lt}
 use Rattle.meaning.proofs.Nodes.{differs}
 use Rattle.records.specs.Code.{wayOf, modeOf}
-use Rattle.records.proofs.Stretches.{stretch, onward}
+use Rattle.records.proofs.Ranges.{stretch, onward}
 
 -- ---- a number's kind
 pub constant-kind : (n : ℕ) → n < 2 → kindOf n ≡ constant (eqb n 1)

@@ -21,10 +21,10 @@ use Rattle.meaning.proofs.Accepted.{clear-well-formed, tree-numbered, check-acc
 use Rattle.meaning.proofs.Nodes.{tree-of}
 use Rattle.meaning.proofs.Examples.{starred}
 use Rattle.theorems.specs.Expander.{expanded, Expanding, Expander}
-use Rattle.theorems.proofs.Bytes.{at-start}
-use Rattle.theorems.proofs.Atoms.{formAtoms, form-atoms}
-use Rattle.theorems.proofs.Blocks.{Block, block-once}
-use Rattle.theorems.proofs.Postorder.{form-part}
+use Rattle.meaning.proofs.Bytes.{at-start}
+use Rattle.meaning.proofs.Atoms.{formAtoms, form-atoms}
+use Rattle.meaning.proofs.Blocks.{Block, block-once}
+use Rattle.meaning.proofs.Postorder.{form-part}
 
 -- ---- what the expander accepts
 -- The answer that accepts.

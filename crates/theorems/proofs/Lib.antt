@@ -18,8 +18,4 @@ pub mod InForm
 pub mod Agreement
 pub mod Told
 pub mod Paper
-pub mod Bytes
-pub mod Blocks
-pub mod Atoms
-pub mod Postorder
 pub mod Expander

@@ -18,7 +18,7 @@ use Rattle.meaning.proofs.RuleCount.{rules-counted}
 use Rattle.meaning.specs.WellFormed.{WellFormed, Fits}
 use Rattle.meaning.proofs.Bounds.{le-or-lt}
 use Rattle.records.specs.Code.{modeOf}
-use Rattle.records.proofs.Stretches.{stretch}
+use Rattle.records.proofs.Ranges.{stretch}
 use Rattle.meaning.proofs.Nodes.{either-sort, differs}
 use Rattle.records.proofs.Numbers.{formula-number, path-number}
 use Rattle.translate.specs.Contexts.{AllHanded, Moded}

@@ -7,7 +7,7 @@ use native.Mathlib.Omega.{arith}
 use lib.ListN.{length}
 use Rattle.meaning.specs.Record.{kinds, kindAt, kindByte, fieldA, fieldB, Sort, sortOf, columnsOf}
 use Rattle.meaning.specs.Record.{atomNumber, child, useA, useB}
-use Rattle.records.proofs.Stretches.{stretch}
+use Rattle.records.proofs.Ranges.{stretch}
 use Rattle.value.specs.Valuing.{Asked}
 use Rattle.value.proofs.Table.{row-end}
 

@@ -4,7 +4,7 @@ use mathlib.Core.Path.{refl}
 use native.Mathlib.Omega.{arith}
 use Rattle.meaning.specs.Record.{Kind, kinds, sortOf, columnsOf}
 use Rattle.records.specs.Code.{sortCode}
-use Rattle.records.proofs.Stretches.{stretch, onward}
+use Rattle.records.proofs.Ranges.{stretch, onward}
 use Rattle.records.proofs.shape.sort_of.Statement.{statement}
 use Rattle.records.proofs.shape.sort_of.Tie as tie
 

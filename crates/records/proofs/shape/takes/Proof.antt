@@ -3,7 +3,7 @@ use mathlib.Core.Path.{refl}
 use mathlib.Core.Bool.{true, false}
 use native.Mathlib.Omega.{arith}
 use Rattle.meaning.specs.Record.{kinds, known}
-use Rattle.records.proofs.Stretches.{stretch, onward}
+use Rattle.records.proofs.Ranges.{stretch, onward}
 use Rattle.records.proofs.shape.takes.Statement.{statement}
 use Rattle.records.proofs.shape.takes.Tie as tie
 

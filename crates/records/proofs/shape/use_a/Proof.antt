@@ -4,7 +4,7 @@ use mathlib.Core.Path.{refl}
 use native.Mathlib.Omega.{arith}
 use Rattle.meaning.specs.Record.{Kind, kinds, useA, argumentsOf, columnsOf}
 use Rattle.records.specs.Code.{sortCode, useCode}
-use Rattle.records.proofs.Stretches.{stretch, onward}
+use Rattle.records.proofs.Ranges.{stretch, onward}
 use Rattle.records.proofs.shape.use_a.Statement.{statement}
 use Rattle.records.proofs.shape.use_a.Tie as tie
 

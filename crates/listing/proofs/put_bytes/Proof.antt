@@ -6,8 +6,8 @@ use native.Mathlib.Omega.{arith}
 use lib.ListN.{length}
 use lib.Seq.{paste, paste-zero, paste-suc, length-paste, take-length, sets-eq}
 use borrow.Author.Needs.{needs}
-use Rattle.printing.proofs.put_bytes.Statement.{statement}
-use Rattle.printing.proofs.put_bytes.Tie as tie
+use Rattle.listing.proofs.put_bytes.Statement.{statement}
+use Rattle.listing.proofs.put_bytes.Tie as tie
 
 abbrev Inv-loop : tie.InvT-loop
 Inv-loop out₀ at bytes i₀ out i = (i ≤ length bytes) × (out ≡ paste out₀ at bytes i)

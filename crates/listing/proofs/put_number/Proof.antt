@@ -3,11 +3,11 @@ use Prim.Native.Nat.{_≤_}
 use mathlib.Core.Path.{_∙_}
 use native.Mathlib.Omega.{arith}
 use borrow.Author.Needs.{needs}
-use Rattle.printing.specs.Printed.{told}
-use Rattle.printing.proofs.Spelling.{decimal-digits, few-digits}
-use Rattle.printing.proofs.Putting.{put-byte, put-more}
-use Rattle.printing.proofs.put_number.Statement.{statement}
-use Rattle.printing.proofs.put_number.Tie as tie
+use Rattle.listing.specs.Printed.{told}
+use Rattle.listing.proofs.Spelling.{decimal-digits, few-digits}
+use Rattle.listing.proofs.Putting.{put-byte, put-more}
+use Rattle.listing.proofs.put_number.Statement.{statement}
+use Rattle.listing.proofs.put_number.Tie as tie
 
 few : (c : tie.After-decimal) → c .decimal .result ≤ 5
 few c = few-digits _ _ (c .before .before .before .pre .0) (c .decimal .ensures .1 .0)

@@ -16,7 +16,7 @@ use Rattle.meaning.specs.Refusal.{firstOf, mostAtoms, mostRules, starredGrounds
 use Rattle.meaning.specs.Service.{translateAnswer, translateAfter}
 use Rattle.meaning.proofs.Bounds.{le-or-lt}
 use Rattle.translate.proofs.Answering.{refused, refused-room}
-use Rattle.printing.specs.Printed.{ascii, told, word, line, lineEnd, printed}
+use Rattle.listing.specs.Printed.{ascii, told, word, line, lineEnd, printed}
 
 -- ---- zeros
 abbrev zeros : ℕ → List ℕ

@@ -1,9 +1,9 @@
 -- `put_last` meets its contract: the number is put behind the word.
 use native.Mathlib.Omega.{arith}
 use borrow.Author.Needs.{needs}
-use Rattle.printing.proofs.Putting.{put-more}
-use Rattle.printing.proofs.put_last.Statement.{statement}
-use Rattle.printing.proofs.put_last.Tie as tie
+use Rattle.listing.proofs.Putting.{put-more}
+use Rattle.listing.proofs.put_last.Statement.{statement}
+use Rattle.listing.proofs.put_last.Tie as tie
 
 returns : tie.Need-returns
 returns c =

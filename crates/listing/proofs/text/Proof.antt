@@ -4,10 +4,10 @@ use mathlib.Core.Path.{_≡_}
 use native.Mathlib.Omega.{arith}
 use lib.ListN.{length}
 use borrow.Author.Needs.{needs}
-use Rattle.printing.proofs.Putting.{put-length, put-more, put-written}
-use Rattle.printing.proofs.Answered.{printed-refused, few-rules, printed-rules}
-use Rattle.printing.proofs.text.Statement.{statement}
-use Rattle.printing.proofs.text.Tie as tie
+use Rattle.listing.proofs.Putting.{put-length, put-more, put-written}
+use Rattle.listing.proofs.Answered.{printed-refused, few-rules, printed-rules}
+use Rattle.listing.proofs.text.Statement.{statement}
+use Rattle.listing.proofs.text.Tie as tie
 
 -- ---- with no refusal
 -- There are at most 1,021 rules.

@@ -15,12 +15,12 @@ use native.Mathlib.Omega.{arith}
 use lib.ListN.{getD}
 use lib.Dec.{eqb}
 use borrow.Author.Tests.{eq-eqb, ne-eqb}
 use Rattle.meaning.specs.Record.{Kind, Sort, unused, child, useA, useB, sortOf, known, kindAt, zeroByte, fieldA, fieldB, names, uses, placesIn}
 use Rattle.meaning.specs.Tree.{Tree, noTree, nodeOf, trees, treeAt}
 use Rattle.meaning.specs.WellFormed.{Fits}
 use Rattle.meaning.proofs.Bounds.{le-or-lt, below-suc}
 use Rattle.meaning.proofs.Nodes.{tree-node, trees-settled}
-use Rattle.theorems.proofs.Bytes.{Reads}
+use Rattle.meaning.proofs.Bytes.{Reads}
 
 -- ---- counting
 -- 1 if the two are the same record, else 0.

@@ -4,9 +4,12 @@ ghost use mathlib.Core.List.{_++_};
 ghost use Prim.Native.Nat.{_*_, _+_, _<_, _≤_};
 ghost use lib.ListN.{length};
 ghost use Rattle.meaning.specs.Run.{each, written};
-ghost use Rattle.printing.specs.Printed.{told, line, lineEnd, printed};
-ghost use Rattle.printing.specs.Printed.{gap as Printed·gap};
-ghost use Rattle.printing.specs.Put.{Put};
+ghost use Rattle.listing.specs.Printed.{told, line, lineEnd, printed};
+ghost use Rattle.listing.specs.Printed.{gap as Printed·gap};
+ghost use Rattle.listing.specs.Put.{Put};
+use records::layout;
+use rules::MOST_RULES;
+use rules::RULE_SIZE;
 
 // Room for the longest text: 1,021 lines of at most 36 bytes, and a last one of at most 12.
 pub const MOST_TEXT: usize = 36768;
@@ -15,10 +18,15 @@ const SPACE: u8 = 32;
 
 const LINE_END: u8 = 10;
 
-// Prints the rules of the records on standard input. It reads one byte more than 255 records take, so that anything
-// longer is refused.
+// One byte more than a formula's records take, so that anything longer is refused.
+const READ: usize = layout::MOST_BYTES + 1;
+
+// Room for all rules, so that 10 is never the refusal.
+const MOST_WORDS: usize = RULE_SIZE * MOST_RULES;
+
+// Prints the rules of the records on standard input.
 pub fn run() {
-    let mut records = [0u8; 1531];
+    let mut records = [0u8; READ];
     let n = io::read_full(libc::STDIN_FILENO, &mut records);
     let mut out = [0u8; MOST_TEXT];
     let size = text(&records[..n], &mut out);
@@ -31,10 +39,9 @@ pub fn text(records: &[u8], out: &mut [u8; MOST_TEXT]) -> usize
     ensures size { λ e. ⌜ e ≡ length (printed (now (records .entry))) ⌝ }
     ensures bytes { λ _. ⌜ now (out .exit) ≡ written (printed (now (records .entry))) (now (out .entry)) ⌝ }
 {
-    // Six words for each of 1,021 rules, so 10 is never the refusal.
-    let mut words = [0u16; 6126];
-    let t = translate::translate(records, 32, &mut words);
-    if t.refusal != 0 {
+    let mut words = [0u16; MOST_WORDS];
+    let t = translate::translate(records, layout::MOST_ATOMS, &mut words);
+    if t.refusal != refusals::ACCEPTED {
         return put_last(out, 0, b"refused ", t.refusal as u64);
     }
     let at = put_rules(out, &words, t.count as usize);

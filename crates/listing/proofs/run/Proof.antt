@@ -1,9 +1,9 @@
 -- `run` meets its contract: it is safe, since the text fits the buffer that it was put into.
 use borrow.Author.Needs.{needs}
 use Rattle.io.proofs.Counting.{front}
-use Rattle.printing.proofs.Putting.{written-fits}
-use Rattle.printing.proofs.run.Statement.{statement}
-use Rattle.printing.proofs.run.Tie as tie
+use Rattle.listing.proofs.Putting.{written-fits}
+use Rattle.listing.proofs.run.Statement.{statement}
+use Rattle.listing.proofs.run.Tie as tie
 
 array-share-prefix-out : tie.Need-array-share-prefix-out
 array-share-prefix-out c = written-fits _ _ (c .text .ensures .0) (c .text .ensures .1)

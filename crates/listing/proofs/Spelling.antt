@@ -8,7 +8,7 @@ use native.Mathlib.Omega.{arith}
 use borrow.Author.Tests.{lt-ltb, le-ltb}
 use Rattle.io.specs.Digits.{glyph, digits, Fewest}
 use Rattle.meaning.proofs.Bounds.{le-or-lt}
-use Rattle.printing.specs.Printed.{decimalIn, decimal}
+use Rattle.listing.specs.Printed.{decimalIn, decimal}
 
 -- The digit of the ones.
 ones : (n : ℕ) → glyph (n % 10) ≡ 48 + n % 10

@@ -5,11 +5,11 @@ use native.Mathlib.Omega.{arith}
 use lib.ListN.{length}
 use borrow.Author.Needs.{needs}
 use Rattle.meaning.specs.Run.{each}
-use Rattle.printing.specs.Printed.{word, line}
-use Rattle.printing.specs.Put.{Put}
-use Rattle.printing.proofs.Putting.{put-length, put-first, put-next}
-use Rattle.printing.proofs.put_rule.Statement.{statement}
-use Rattle.printing.proofs.put_rule.Tie as tie
+use Rattle.listing.specs.Printed.{word, line}
+use Rattle.listing.specs.Put.{Put}
+use Rattle.listing.proofs.Putting.{put-length, put-first, put-next}
+use Rattle.listing.proofs.put_rule.Statement.{statement}
+use Rattle.listing.proofs.put_rule.Tie as tie
 
 abbrev Inv-loop : tie.InvT-loop
 Inv-loop out₀ at words i e₀ j₀ out e j = (j ≤ 6) × Put out₀ at (each j (word words i)) e out × (e ≤ at + 6 * j)

@@ -1,8 +1,8 @@
 -- `gap` meets its contract: it tests what the definition tests.
 use borrow.Author.Tests.{eq-eqb, ne-eqb}
-use Rattle.printing.specs.Printed.{gap}
-use Rattle.printing.proofs.gap.Statement.{statement}
-use Rattle.printing.proofs.gap.Tie as tie
+use Rattle.listing.specs.Printed.{gap}
+use Rattle.listing.proofs.gap.Statement.{statement}
+use Rattle.listing.proofs.gap.Tie as tie
 
 returns : tie.Need-returns
 unfolding gap

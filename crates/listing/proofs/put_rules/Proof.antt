@@ -5,11 +5,11 @@ use native.Mathlib.Omega.{arith}
 use lib.ListN.{length}
 use borrow.Author.Needs.{needs}
 use Rattle.meaning.specs.Run.{each}
-use Rattle.printing.specs.Printed.{line}
-use Rattle.printing.specs.Put.{Put}
-use Rattle.printing.proofs.Putting.{put-length, put-first, put-next}
-use Rattle.printing.proofs.put_rules.Statement.{statement}
-use Rattle.printing.proofs.put_rules.Tie as tie
+use Rattle.listing.specs.Printed.{line}
+use Rattle.listing.specs.Put.{Put}
+use Rattle.listing.proofs.Putting.{put-length, put-first, put-next}
+use Rattle.listing.proofs.put_rules.Statement.{statement}
+use Rattle.listing.proofs.put_rules.Tie as tie
 
 abbrev Inv-loop : tie.InvT-loop
 Inv-loop out₀ words n at₀ i₀ out at i = (i ≤ n) × Put out₀ 0 (each i (line words)) at out × (at ≤ 36 * i)

@@ -8,7 +8,7 @@ use lib.Seq.{length-sets}
 use Rattle.meaning.specs.Run.{each, written}
 use Rattle.meaning.proofs.Runs.{each-more}
 use Rattle.meaning.proofs.Stores.{sets-append, sets-written}
-use Rattle.printing.specs.Put.{Put}
+use Rattle.listing.specs.Put.{Put}
 
 -- One byte.
 pub put-byte : (old : List ℕ) (at b : ℕ) → Put old at (b ∷ []) (at + 1) (set old at b)
