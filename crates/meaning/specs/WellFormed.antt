@@ -2,13 +2,14 @@
 -- nothing else (proofs/Accepted).
 --   Fits s A r use v        a field of record r that is used so may hold v
 --   WellFormed full s A     the records are a tree; `full` is true where shorthands may stand in it
+--   Trace A L cells         what it is for cells to be a trace
 use Prim.Native.Nat.{ℕ, suc, pred, _*_, _<_, _≤_}
 use mathlib.Core.Path.{_≡_}
 use mathlib.Core.Bool.{Bool, true}
 use mathlib.Core.List.{List}
-use lib.ListN.{length}
+use lib.ListN.{length, getD}
 use Rattle.meaning.specs.Record.{recordSize, mostRecords, count, kindAt, zeroByte, fieldA, fieldB, Use, unused, atomNumber, child, useA, useB, formula, sortOf, known, places}
-use Rattle.meaning.specs.Refusal.{mostAtoms}
+use Rattle.meaning.specs.Refusal.{mostAtoms, mostInstants}
 
 -- An unused field is zero, an atom is one of the A, a child is earlier and of its sort.
 abbrev pub Fits : List ℕ → ℕ → ℕ → Use → ℕ → Type 0
@@ -27,3 +28,10 @@ pub record WellFormed (full : Bool) (s : List ℕ) (A : ℕ) : Type 0 where
   pub second : (r : ℕ) → r < count s → Fits s A r (useB (kindAt s r)) (fieldB s r)
   pub last : sortOf (kindAt s (pred (count s))) ≡ formula
   pub once : (r : ℕ) → suc r < count s → places s r ≡ 1
+
+-- A legal trace of A atoms over L instants: refusals 8 and 9 shut out everything else.
+pub record Trace (A L : ℕ) (cells : List ℕ) : Type 0 where
+  pub some : 0 < L
+  pub few : L ≤ mostInstants
+  pub size : length cells ≡ A * L
+  pub low : (i : ℕ) → getD cells i 0 ≤ 2

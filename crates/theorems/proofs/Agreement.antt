@@ -19,14 +19,14 @@ use Rattle.meaning.specs.Translation.{translation}
 use Rattle.meaning.specs.Judge.{Verdict, verdict, AllHold, ruleCount}
 use Rattle.meaning.specs.Refusal.{mostAtoms, mostColumns, ground8-cells, grounds9, ground10, ground13, ground13-length}
 use Rattle.meaning.specs.Refusal.{valueGrounds, judgeGrounds}
-use Rattle.meaning.specs.WellFormed.{WellFormed}
+use Rattle.meaning.specs.WellFormed.{WellFormed, Trace}
 use Rattle.meaning.specs.Service.{Judged, judged, told, judgeAnswer, valueAnswer}
 use Rattle.meaning.proofs.Fails.{tests}
 use Rattle.meaning.proofs.First.{Clear, clear-none, clear-append, each-clear}
 use Rattle.meaning.proofs.Accepted.{clear-well-formed, starred-formed}
 use Rattle.meaning.proofs.RuleCount.{few-rules, words-length}
 use Rattle.meaning.proofs.Judging.{yes-means}
-use Rattle.theorems.specs.Filling.{Trace, Meets}
+use Rattle.theorems.specs.Filling.{Meets}
 use Rattle.theorems.specs.Demand3.{Accepted, OneFilling}
 use Rattle.theorems.specs.Why.{Agreement}
 use Rattle.theorems.proofs.Shaped.{shapes}

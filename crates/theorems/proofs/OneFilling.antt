@@ -18,11 +18,11 @@ use Rattle.meaning.specs.Value.{Row, valueOf, squareOf, modalRow}
 use Rattle.meaning.specs.Rule.{words, placed}
 use Rattle.meaning.specs.Translation.{label, edgeRule, rulesAt, asserted, translation}
 use Rattle.meaning.specs.Judge.{AllHold}
-use Rattle.meaning.specs.WellFormed.{WellFormed}
+use Rattle.meaning.specs.WellFormed.{WellFormed, Trace}
 use Rattle.meaning.proofs.Bounds.{le-or-lt}
 use Rattle.meaning.proofs.Runs.{length-each, getD-each, length-tabulate, getD-tabulate, row-place}
 use Rattle.meaning.proofs.Within.{edge}
-use Rattle.theorems.specs.Filling.{Trace, Filling, labelOf, Meets}
+use Rattle.theorems.specs.Filling.{Filling, labelOf, Meets}
 use Rattle.theorems.specs.Demand3.{OneFilling}
 use Rattle.theorems.proofs.Shape.{modeAt, contAt, Shape}
 use Rattle.theorems.proofs.Keeping.{Keeping, all-hold, append-kept, each-keeping}

@@ -13,7 +13,8 @@ use Rattle.meaning.specs.Translation.{translation, context, ruleSum}
 use Rattle.meaning.specs.Judge.{AllHold}
 use Rattle.meaning.specs.Refusal.{firstOf, starredGrounds}
 use Rattle.meaning.specs.Service.{translateAnswer, translateAfter}
-use Rattle.theorems.specs.Filling.{Trace, Filling, labelOf, Meets}
+use Rattle.meaning.specs.WellFormed.{Trace}
+use Rattle.theorems.specs.Filling.{Filling, labelOf, Meets}
 
 -- The translator accepts the formula; whether its output has room is another matter.
 abbrev pub Accepted : List ℕ → ℕ → Type 0

@@ -1,5 +1,4 @@
 -- A trace filled with labels: rows of A atoms and then n labels, as the judge reads them.
---   Trace A L cells            a legal trace
 --   Filling A n L cells f      f has the trace's cells and, beside them, values for n labels
 --   labelOf A n f r k          the value of record r's label at instant k
 --   others s A                 the words of all rules but the one that asserts the whole formula
@@ -13,12 +12,6 @@ use Rattle.meaning.specs.Record.{count}
 use Rattle.meaning.specs.Rule.{words}
 use Rattle.meaning.specs.Translation.{rulesAt}
 use Rattle.meaning.specs.Judge.{AllHold}
-
-pub record Trace (A L : ℕ) (cells : List ℕ) : Type 0 where
-  pub some : 0 < L
-  pub few : L ≤ 32
-  pub size : length cells ≡ A * L
-  pub low : (i : ℕ) → getD cells i 0 ≤ 2
 
 pub record Filling (A n L : ℕ) (cells f : List ℕ) : Type 0 where
   pub size : length f ≡ (A + n) * L

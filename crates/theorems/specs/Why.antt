@@ -14,7 +14,8 @@ use Rattle.meaning.specs.Rule.{words}
 use Rattle.meaning.specs.Translation.{translation}
 use Rattle.meaning.specs.Service.{judged, judgeAnswer, valueAnswer}
 use Rattle.meaning.specs.Examples.{standing}
-use Rattle.theorems.specs.Filling.{Trace, Filling, Meets}
+use Rattle.meaning.specs.WellFormed.{Trace}
+use Rattle.theorems.specs.Filling.{Filling, Meets}
 use Rattle.theorems.specs.Demand3.{Accepted, OneFilling}
 
 -- The line follows where the star's body goes forward; where it goes back it can be false.

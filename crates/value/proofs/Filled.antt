@@ -32,11 +32,11 @@ module _ {s : List ℕ} {A L : ℕ} {cells d : List ℕ} (w : Legal s A L cells 
     first-value i h =
         let e : pred (count s) ≡ r = omega arith in
         let z : i ≡ r * L + 0 = omega arith in
-        rw (z, e) (v .rows r Under.itself (last-asked .1) .values 0 (w .some))
+        rw (z, e) (v .rows r Under.itself (last-asked .1) .values 0 (w .trace .some))
 
     -- It lies in the table.
     pub first-within : (i : ℕ) → i ≡ r * L → i < length done
-    first-within i h = omega (arith, row-room (last-asked .0), v .steady .size, w .some)
+    first-within i h = omega (arith, row-room (last-asked .0), v .steady .size, w .trace .some)
 
     row-right : (q k : ℕ) → q < n → k < L → rowAt done (q * L) k ≡ rowOf s A L cells q k
     unfolding rowOf rowBy

@@ -43,10 +43,7 @@ module _ (s : List ℕ) (A L : ℕ) (cells : List ℕ) (room : ℕ) where
       let (few, some, short, size) = size-fits mostAtoms A L cells size-right in
       record {
         formed = clear-well-formed false s A .0 (length-right, (le-ltb 32 A few, t .0));
-        some = some;
-        short = short;
-        size = size;
-        low = cells-low cells (c .0);
+        trace = record { some = some; few = short; size = size; low = cells-low cells (c .0) };
         enough = ltb-false room (count s * L) (c .1 .0);
       }
 

@@ -129,7 +129,7 @@ module _ {s : List ℕ} {A L : ℕ} {cells : List ℕ} {r n : ℕ} {t : List ℕ
     pub square-low : (a : ℕ) {bytes : List ℕ} → Squared s A L cells a bytes
         → (k j : ℕ) → k < L → j < L → at bytes k j ≤ 2
     square-low a q k j h l =
-        let low = square-bound L (cellOf A cells) (λ k i _. w .legal .low (A * k + i)) (pathAt s a) k j h in
+        let low = square-bound L (cellOf A cells) (λ k i _. w .legal .trace .low (A * k + i)) (pathAt s a) k j h in
         omega (arith, q .cells k j h l)
 
     pub square-part : {bytes : List ℕ} → Squared s A L cells r bytes → Part L n bytes

@@ -17,7 +17,7 @@ use Rattle.meaning.specs.Run.{cellOf}
 use Rattle.meaning.specs.Record.{count, kindAt, kindByte, fieldA, fieldB, Sort, formula, path, sortOf, child, useA, useB}
 use Rattle.meaning.specs.Tree.{formAt, pathAt}
 use Rattle.meaning.specs.Value.{valueOf, squareOf}
-use Rattle.meaning.specs.WellFormed.{WellFormed}
+use Rattle.meaning.specs.WellFormed.{WellFormed, Trace}
 use Rattle.squares.specs.Cells.{rowAt, Holds}
 
 pub data Under (s : List ℕ) : ℕ → ℕ → Type 0 where
@@ -31,10 +31,7 @@ module _ (s : List ℕ) (A L : ℕ) (cells : List ℕ) where
 
   pub record Legal (room : ℕ) : Type 0 where
     pub formed : WellFormed false s A
-    pub some : 0 < L
-    pub short : L ≤ 32
-    pub size : length cells ≡ A * L
-    pub low : (i : ℕ) → getD cells i 0 ≤ 2
+    pub trace : Trace A L cells
     pub enough : count s * L ≤ room
 
   pub record Asked (r : ℕ) (t : List ℕ) : Type 0 where

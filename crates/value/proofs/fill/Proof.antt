@@ -27,7 +27,7 @@ at c =
 row-start-requires : tie.Need-row-start-requires
 row-start-requires c κs =
     let s = c .before .before .before .before .before in
-    omega (arith, c .before .record-count .ensures, s .pre .formed .few, s .pre .short)
+    omega (arith, c .before .record-count .ensures, s .pre .formed .few, s .pre .trace .few)
 
 put-constant-requires : tie.Need-put-constant-requires
 put-constant-requires c κs =
@@ -50,7 +50,7 @@ sub-row-start c = omega (arith, at (c .before .before .before .before .before .b
 row-start-requires-2 : tie.Need-row-start-requires-2
 row-start-requires-2 c κs =
     let row = c .before .before .before .before .before .before .before in
-    omega (arith, at row .0, start row .pre .formed .few, start row .pre .short)
+    omega (arith, at row .0, start row .pre .formed .few, start row .pre .trace .few)
 
 slice-read-result : tie.Need-slice-read-result
 slice-read-result c =

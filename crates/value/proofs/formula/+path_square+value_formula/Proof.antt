@@ -252,13 +252,13 @@ module _ (t : ℕ) where
   path-square-row-start-requires c κs =
       let then = c .before .before .before .before .before in
       let w = p-start (then .before) .pre .1 .0 in
-      omega (arith, test-child then .0, w .index, w .legal .formed .few, w .legal .short)
+      omega (arith, test-child then .0, w .index, w .legal .formed .few, w .legal .trace .few)
 
   path-square-test-square-requires : of-path path-square-lts.Need-test-square-requires
   path-square-test-square-requires c κs =
       let then = c .before .before .before .before .before .before in
       let v = c .before .before .before .before .value-formula .ensures in (
-        p-start (then .before) .pre .1 .0 .legal .short,
+        p-start (then .before) .pre .1 .0 .legal .trace .few,
         omega (arith, c .row-start .ensures, row-room (test-child then .1 .0), v .steady .size),
       )
 
@@ -299,7 +299,7 @@ module _ (t : ℕ) where
   path-square-row-start-requires-2 : of-path path-square-lts.Need-row-start-requires-2
   path-square-row-start-requires-2 c κs =
       let w = tested-formula (p-tests (c .before .before .before .before .before .before)) .1 .0 in
-      omega (arith, w .index, w .legal .formed .few, w .legal .short)
+      omega (arith, w .index, w .legal .formed .few, w .legal .trace .few)
 
   path-square-cap-requires : of-path path-square-lts.Need-cap-requires
   path-square-cap-requires c κs =
@@ -308,7 +308,7 @@ module _ (t : ℕ) where
       let w = tested-formula (p-tests fb) .1 .0 in
       let v = fb .before .before .before .value-formula2 .ensures in
       let q = on .path-square .ensures in (
-        w .legal .short,
+        w .legal .trace .few,
         omega (arith, c .row-start2 .ensures, row-room w, v .steady .size, q .0 .steady .size),
         q .1 .size,
       )
@@ -383,7 +383,7 @@ module _ (t : ℕ) where
       let h = part-b fb .1 in
       let x = fb .before .before .before .before .path-square2 .ensures .1 in
       let y = first .before .before .before .path-square3 .ensures .1 in (
-        g .0 .legal .short,
+        g .0 .legal .trace .few,
         x .size,
         square-part (g .0) (first .kind-at2 .ensures) (g .1) x,
         square-part (h .0) (next .kind-at3 .ensures) (h .1) y,
@@ -438,7 +438,7 @@ module _ (t : ℕ) where
       let row = c .before .before .before .before in
       let w = f-start row .pre .1 .0 in (
         omega (arith, row .row-start .ensures, row-room w),
-        w .legal .size,
+        w .legal .trace .size,
         atom-low w (sym (row .before .kind-at .ensures) ∙ c .before .if2 .taken) (c .before .before .field-a .ensures),
       )
 
@@ -472,7 +472,7 @@ module _ (t : ℕ) where
   value-formula-row-start-requires-2 c κs =
       let fb = c .before .before .before .before .before .before .before .before .before .before in
       let w = f-start (f-row fb) .pre .1 .0 in
-      omega (arith, goal-child fb .0, w .index, w .legal .formed .few, w .legal .short)
+      omega (arith, goal-child fb .0, w .index, w .legal .formed .few, w .legal .trace .few)
 
   value-formula-put-modal-requires : of-formula value-formula-lts.Need-put-modal-requires
   value-formula-put-modal-requires c κs =
@@ -485,7 +485,7 @@ module _ (t : ℕ) where
       let room = row-room (s .pre .1 .0) in
       let end = row-end (s .args .l) (goal-child fb .0) in
       let own = row .row-start .ensures in
-      (omega arith, omega (arith, c .row-start2 .ensures), s .pre .1 .0 .legal .short)
+      (omega arith, omega (arith, c .row-start2 .ensures), s .pre .1 .0 .legal .trace .few)
 
   value-formula-same-length-3 : of-formula value-formula-lts.Need-same-length-3
   value-formula-same-length-3 c = search needs

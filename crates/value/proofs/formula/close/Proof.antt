@@ -27,7 +27,7 @@ run-on-requires c κs =
     let way = c .before .if2 .taken in
     let w = one .before .before .before .before .pre in
     let m = square-moving w (omega arith) (omega arith) (one .one-way .ensures (omega arith)) in
-    (w .asked .legal .some, w .asked .legal .short, w .square .size, rw way at m)
+    (w .asked .legal .trace .some, w .asked .legal .trace .few, w .square .size, rw way at m)
 
 run-back-requires : tie.Need-run-back-requires
 unfolding wayOf
@@ -36,12 +36,12 @@ run-back-requires c κs =
     let way = c .before .if3 .taken in
     let w = one .before .before .before .before .pre in
     let m = square-moving w (omega arith) (omega arith) (one .one-way .ensures (omega arith)) in
-    (w .asked .legal .short, w .square .size, rw way at m)
+    (w .asked .legal .trace .few, w .square .size, rw way at m)
 
 close-requires : tie.Need-close-requires
 close-requires c κs =
     let w = c .before .before .before .before .before .before .before .pre in
-    (w .asked .legal .short, w .square .size, square-low (w .asked) refl (w .sort) _ (w .square))
+    (w .asked .legal .trace .few, w .square .size, square-low (w .asked) refl (w .sort) _ (w .square))
 
 returns-2 : tie.Need-returns-2
 returns-2 c = c .run-on .ensures
