@@ -107,7 +107,7 @@ static inline int pass(struct passed *p, const uint8_t *records, size_t r, enum 
 /* Each record before the last is held once if none was held before and there are as many children as such records. */
 static inline uint8_t check(const uint8_t *records, size_t records_size, enum taken taken, uint64_t atoms)
 {
-    if (records_size == 0 || records_size % RECORD_SIZE != 0 || records_size > (size_t)RECORD_SIZE * MOST_RECORDS)
+    if (records_size == 0 || records_size % RECORD_SIZE != 0 || records_size > MOST_BYTES)
         return PASTUREQUILL_WRONG_LENGTH;
     if (atoms > PASTUREQUILL_MOST_ATOMS)
         return PASTUREQUILL_WRONG_SIZE;

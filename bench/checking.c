@@ -7,7 +7,6 @@
 #include "checker.h"
 #include "comparison.h"
 #include "damage.h"
-#include "records.h"
 #include "shapes.h"
 #include "workloads.h"
 
@@ -23,7 +22,7 @@ enum { CHECKER, LIBRARY, CONTENDERS };
 
 static uint8_t check(int contender, const struct formula *f, size_t atoms)
 {
-    return (contender == LIBRARY ? pasturequill_check : check_core)(f->records, RECORD_SIZE * f->n, atoms);
+    return (contender == LIBRARY ? pasturequill_check : check_core)(f->records, size_of(f), atoms);
 }
 
 static void run(int contender, const void *work, size_t rounds)

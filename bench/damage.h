@@ -13,9 +13,8 @@ enum { DAMAGES = 2000 };
 static inline void damage(struct formula *f)
 {
     static const size_t limits[] = {PASTUREQUILL_STAR + 1, PASTUREQUILL_SINCE + 1, UINT8_MAX + 1};
-    size_t size = PASTUREQUILL_RECORD_SIZE * f->n;
     for (size_t changes = 1 + below(2); changes > 0; changes--) {
-        size_t at = below(size);
+        size_t at = below(size_of(f));
         f->records[at] = (uint8_t)below(limits[below(sizeof limits / sizeof *limits)]);
     }
 }

@@ -27,13 +27,7 @@ struct writer {
 /* Here and below, what is written last stands for the whole, and its number is given back. */
 static size_t put(struct writer *w, uint8_t kind, size_t a, size_t b)
 {
-    uint8_t *to = w->out + RECORD_SIZE * w->n;
-    to[KIND] = kind;
-    to[ZERO] = 0;
-    to[FIELD_A] = (uint8_t)a;
-    to[FIELD_A + HIGH] = 0;
-    to[FIELD_B] = (uint8_t)b;
-    to[FIELD_B + HIGH] = 0;
+    put_record(w->out + RECORD_SIZE * w->n, kind, a, b);
     return w->n++;
 }
 

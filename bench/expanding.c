@@ -8,10 +8,9 @@
 #include "comparison.h"
 #include "damage.h"
 #include "expander.h"
-#include "records.h"
 #include "shapes.h"
 
-enum { ATOMS = PASTUREQUILL_MOST_ATOMS, MOST_BYTES = RECORD_SIZE * MOST_RECORDS, MOST_FORMULAS = 16 };
+enum { ATOMS = PASTUREQUILL_MOST_ATOMS, MOST_FORMULAS = 16 };
 
 struct work {
     const char *name;
@@ -24,7 +23,7 @@ enum { EXPANDER, LIBRARY, CONTENDERS };
 
 static pasturequill_counted expand(int contender, const struct formula *f, uint8_t *out)
 {
-    return (contender == LIBRARY ? pasturequill_expand : expand_checked)(f->records, RECORD_SIZE * f->n, ATOMS, out,
+    return (contender == LIBRARY ? pasturequill_expand : expand_checked)(f->records, size_of(f), ATOMS, out,
                                                                          MOST_BYTES);
 }
 

@@ -45,7 +45,7 @@ static uint8_t shaped(struct filled *f, const struct column *c, size_t k)
     }
 }
 
-static int symbol_of(size_t column) { return 2 + (int)column; }
+static int symbol_of(size_t column) { return COLUMN + (int)column; }
 
 /* The rules that say so. */
 static void say(struct rules *to, const struct column *c, size_t column)

@@ -11,7 +11,7 @@ enum { MOST_MORE = 3 };
 struct filled {
     size_t rules, width, instants;
     int everywhere; /* only rules of every instant */
-    uint16_t words[RULE_SIZE * (PASTUREQUILL_MOST_RULES + MOST_MORE)];
+    uint16_t words[MOST_WORDS + RULE_SIZE * MOST_MORE];
     uint8_t cells[PASTUREQUILL_MOST_COLUMNS * PASTUREQUILL_MOST_INSTANTS];
 };
 

@@ -6,13 +6,13 @@
 #include "filled.h"
 #include "formula.h"
 #include "random.h"
-#include "records.h"
 #include "timing.h"
 
 enum { ATOMS = PASTUREQUILL_MOST_ATOMS, MOST_INSTANTS = PASTUREQUILL_MOST_INSTANTS };
 
 /* What grows. */
-static const size_t records_taken[] = {15, 31, 63, 127, 255}, instants_taken[] = {1, 2, 4, 8, 16, 32};
+static const size_t records_taken[] = {15, 31, 63, 127, MOST_RECORDS};
+static const size_t instants_taken[] = {1, 2, 4, 8, 16, MOST_INSTANTS};
 
 struct size {
     size_t records, instants;
@@ -67,8 +67,6 @@ static void build(struct size size)
 }
 
 /* ---- one call each, which gives whether the answer is the one that it must be */
-static size_t size_of(const struct formula *f) { return RECORD_SIZE * f->n; }
-
 static int check(const struct subject *s)
 {
     return pasturequill_check(s->core.records, size_of(&s->core), ATOMS) == PASTUREQUILL_ACCEPTED;
@@ -76,13 +74,12 @@ static int check(const struct subject *s)
 
 static int expand(const struct subject *s)
 {
-    static uint8_t out[RECORD_SIZE * MOST_RECORDS];
+    static uint8_t out[MOST_BYTES];
     return pasturequill_expand(s->brief.records, size_of(&s->brief), ATOMS, out, sizeof out).count == s->core.n;
 }
 
 static int translate(const struct subject *s)
 {
-    enum { MOST_WORDS = RULE_SIZE * PASTUREQUILL_MOST_RULES };
     static uint16_t rules[MOST_WORDS];
     return pasturequill_translate(s->core.records, size_of(&s->core), ATOMS, rules, MOST_WORDS).count > s->core.n;
 }

@@ -5,10 +5,10 @@
 
 static uint8_t literal(uint16_t word, size_t width, const uint8_t *cells, size_t k)
 {
-    size_t symbol = word & SYMBOL;
+    size_t symbol = word % PREVIOUS;
     if (word & PREVIOUS)
         k--;
-    uint8_t value = symbol == NO ? 0 : symbol == YES ? 2 : cells[k * width + symbol - 2];
+    uint8_t value = symbol == NO ? 0 : symbol == YES ? 2 : cells[k * width + symbol - COLUMN];
     if (word & NOT)
         value = value == 0 ? 2 : 0;
     return value;
@@ -59,7 +59,7 @@ static uint8_t refusal(const uint16_t *rules, size_t rules_size, uint64_t width,
         if (rule[0] > LAST)
             return PASTUREQUILL_WRONG_RULES;
         for (size_t j = 1; j < RULE_SIZE; j++)
-            if ((rule[j] & SYMBOL) >= 2 + width || ((rule[j] & PREVIOUS) && rule[0] != LATER))
+            if (rule[j] % PREVIOUS >= COLUMN + width || ((rule[j] & PREVIOUS) && rule[0] != LATER))
                 return PASTUREQUILL_WRONG_RULES;
     }
     for (size_t at = 0; at < cells_size; at++)

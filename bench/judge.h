@@ -27,7 +27,7 @@ static inline int is_wrong_size(uint64_t width, uint64_t instants, size_t cells_
 
 static inline int is_wrong_length(size_t rules_size)
 {
-    return rules_size % RULE_SIZE != 0 || rules_size > (size_t)RULE_SIZE * PASTUREQUILL_MOST_RULES;
+    return rules_size % RULE_SIZE != 0 || rules_size > MOST_WORDS;
 }
 
 #endif

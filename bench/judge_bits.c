@@ -5,7 +5,7 @@
 
 #include <string.h>
 
-enum { MOST_INSTANTS = PASTUREQUILL_MOST_INSTANTS, MOST_SYMBOLS = 2 + PASTUREQUILL_MOST_COLUMNS, HALF = 32 };
+enum { MOST_INSTANTS = PASTUREQUILL_MOST_INSTANTS, MOST_SYMBOLS = COLUMN + PASTUREQUILL_MOST_COLUMNS, HALF = 32 };
 
 /* A word's two marks stand above its symbol; turned round, they stand below, and the word is a place in a table of
  * literals. */
@@ -68,7 +68,7 @@ static uint8_t read_cells(const uint8_t *cells, size_t width, size_t instants, u
         uint64_t values = 0;
         for (size_t i = 0; BYTE * i < instants; i++)
             values |= (uint64_t)some[i][c] << (HALF + BYTE * i) | (uint64_t)full[i][c] << BYTE * i;
-        put_literals(literals + MARKED * (2 + c), values);
+        put_literals(literals + MARKED * (COLUMN + c), values);
     }
     return most;
 }
@@ -107,7 +107,7 @@ static pasturequill_judged judge_rules(const uint16_t *rules, size_t n, size_t w
         size_t places[RULE_SIZE - 1];
         for (size_t j = 0; j < RULE_SIZE - 1; j++)
             places[j] = place_of(rule[j + 1]);
-        if (is_bad(rule, places, MARKED * (2 + width)))
+        if (is_bad(rule, places, MARKED * (COLUMN + width)))
             return (pasturequill_judged){.refusal = PASTUREQUILL_WRONG_RULES};
         uint32_t fails = failures(literals, places, instants_of[rule[0]]);
         if (fails != 0 && found.holds)

@@ -101,7 +101,7 @@ static size_t agree_on_words(struct work *w)
     size_t refusals = 0;
     for (size_t at = 0; at < RULE_SIZE * w->filled.rules; at++) {
         uint16_t *word = &w->filled.words[at], kept = *word;
-        *word = (uint16_t)(below(4) * PREVIOUS + below(2 + w->filled.width + 1));
+        *word = (uint16_t)(below(4) * PREVIOUS + below(COLUMN + w->filled.width + 1));
         refusals += judge_by_all(w, CHECKED).refusal != 0;
         *word = kept;
     }

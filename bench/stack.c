@@ -13,7 +13,7 @@
 #include "shapes.h"
 #include "valuers.h"
 
-enum { INSTANTS = 32, STACK = 4 << 20, PATTERN = 0xa5 };
+enum { INSTANTS = PASTUREQUILL_MOST_INSTANTS, STACK = 4 << 20, PATTERN = 0xa5 };
 
 /* ---- the deepest formulas, by what lies inside what */
 /* The parts that come last lie deepest: all first parts stand before them. */
@@ -67,22 +67,22 @@ static const struct shape {
 /* ---- one call */
 struct call {
     struct formula formula;
-    uint8_t cells[INSTANTS], table[PASTUREQUILL_MOST_RECORDS * INSTANTS];
+    uint8_t cells[INSTANTS], table[MOST_RECORDS * INSTANTS];
     pasturequill_valued got;
 };
 
 static void *value(void *argument)
 {
     struct call *c = argument;
-    c->got = pasturequill_value(c->formula.records, PASTUREQUILL_RECORD_SIZE * c->formula.n, 1, INSTANTS, c->cells,
-                                sizeof c->cells, c->table, c->formula.n * INSTANTS);
+    c->got = pasturequill_value(c->formula.records, size_of(&c->formula), 1, INSTANTS, c->cells, sizeof c->cells,
+                                c->table, c->formula.n * INSTANTS);
     return NULL;
 }
 
 /* Stops unless the library's table is the other valuer's. */
 static void check(const char *name, const struct call *c)
 {
-    static uint8_t table[PASTUREQUILL_MOST_RECORDS * INSTANTS];
+    static uint8_t table[MOST_RECORDS * INSTANTS];
     struct task task = {c->formula.records, c->formula.n, 1, INSTANTS, c->cells, table};
     uint8_t expected = value_by(value_bits, &task);
     if (c->got.refusal != 0 || c->got.value != expected || memcmp(c->table, table, c->formula.n * INSTANTS) != 0) {
@@ -125,9 +125,9 @@ int main(void)
         perror("stack");
         return 2;
     }
-    printf("\nStack that valuing takes for formulas of up to 255 records at %d instants; the main thread's limit is\n"
+    printf("\nStack that valuing takes for formulas of up to %d records at %d instants; the main thread's limit is\n"
            "%.0f KiB, the threads have %d KiB:\n\n",
-           INSTANTS, (double)limit.rlim_cur / 1024, STACK / 1024);
+           MOST_RECORDS, INSTANTS, (double)limit.rlim_cur / 1024, STACK / 1024);
     printf("%-34s %7s %12s\n", "what lies inside what", "records", "stack, KiB");
     for (size_t i = 0; i < sizeof shapes / sizeof *shapes; i++) {
         memset(&call, 0, sizeof call);

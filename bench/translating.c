@@ -11,7 +11,7 @@
 #include "shapes.h"
 #include "translator.h"
 
-enum { ATOMS = PASTUREQUILL_MOST_ATOMS, MOST_WORDS = RULE_SIZE * PASTUREQUILL_MOST_RULES };
+enum { ATOMS = PASTUREQUILL_MOST_ATOMS };
 
 struct work {
     const char *name;
@@ -125,8 +125,8 @@ static pasturequill_counted translate(int contender, const struct formula *f, ui
 {
     if (contender == PLAIN)
         return (pasturequill_counted){.count = translate_plain(f->records, f->n, ATOMS, rules)};
-    return (contender == LIBRARY ? pasturequill_translate : translate_checked)(
-        f->records, PASTUREQUILL_RECORD_SIZE * f->n, ATOMS, rules, MOST_WORDS);
+    return (contender == LIBRARY ? pasturequill_translate : translate_checked)(f->records, size_of(f), ATOMS, rules,
+                                                                               MOST_WORDS);
 }
 
 static void run(int contender, const void *work, size_t rounds)

@@ -8,7 +8,7 @@
 size_t translate_plain(const uint8_t *records, size_t n, size_t atoms, uint16_t *rules)
 {
     struct rules to = {rules, 0};
-    int label = 2 + (int)atoms;           /* that of record 0 */
+    int label = COLUMN + (int)atoms;     /* that of record 0 */
     uint16_t continuation[MOST_RECORDS]; /* of paths: a label */
     uint8_t box[MOST_RECORDS];           /* of paths: whether the modality above is one */
 
@@ -45,7 +45,7 @@ size_t translate_plain(const uint8_t *records, size_t n, size_t atoms, uint16_t 
             put_same(&to, EVERY, x, YES);
             break;
         case PASTUREQUILL_ATOM:
-            put_same(&to, EVERY, x, 2 + (int)field_a(records, r));
+            put_same(&to, EVERY, x, COLUMN + (int)field_a(records, r));
             break;
         case PASTUREQUILL_STEP:
             put_same(&to, LATER, PREVIOUS + x, continuation[r]);

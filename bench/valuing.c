@@ -9,7 +9,7 @@
 #include "valuers.h"
 #include "workloads.h"
 
-enum { MOST_TABLE = PASTUREQUILL_MOST_RECORDS * PASTUREQUILL_MOST_INSTANTS };
+enum { MOST_TABLE = MOST_RECORDS * PASTUREQUILL_MOST_INSTANTS };
 
 /* ---- the six */
 enum { PLAIN, ROWS, BITS, ROWS_BEST, BITS_BEST, LIBRARY, CONTENDERS };
@@ -19,8 +19,8 @@ static valuer *const valuers[LIBRARY] = {value_plain, value_rows, value_bits, va
 static uint8_t by_library(const struct input *in, uint8_t *table)
 {
     pasturequill_valued got =
-        pasturequill_value(in->formula.records, PASTUREQUILL_RECORD_SIZE * in->formula.n, in->atoms, in->instants,
-                           in->cells, in->atoms * in->instants, table, in->formula.n * in->instants);
+        pasturequill_value(in->formula.records, size_of(&in->formula), in->atoms, in->instants, in->cells,
+                           in->atoms * in->instants, table, in->formula.n * in->instants);
     return got.refusal == 0 ? got.value : 100 + got.refusal;
 }
 

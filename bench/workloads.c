@@ -8,6 +8,8 @@
 #include "random.h"
 #include "shapes.h"
 
+enum { ATOMS = PASTUREQUILL_MOST_ATOMS, INSTANTS = PASTUREQUILL_MOST_INSTANTS };
+
 struct workload workloads[MOST_WORKLOADS];
 static size_t count;
 
@@ -39,21 +41,21 @@ static struct input *one(const char *name, size_t atoms, size_t instants)
     return next(atoms, instants);
 }
 
-/* A workload of one formula at 32 instants, its cells at random. */
+/* A workload of one formula at as many instants as there may be, its cells at random. */
 static void built(const char *name, size_t atoms, void (*build)(struct formula *f))
 {
-    build(&one(name, atoms, 32)->formula);
+    build(&one(name, atoms, INSTANTS)->formula);
 }
 
 /* ---- rules as they are written */
 /* p holds at least there until q comes at the last instant. */
 static void kept_until(void)
 {
-    struct input *in = one("p until q", 2, 32);
+    struct input *in = one("p until q", 2, INSTANTS);
     until(&in->formula);
-    for (size_t k = 0; k < 32; k++) {
+    for (size_t k = 0; k < INSTANTS; k++) {
         in->cells[2 * k] = k == 9 ? 1 : 2;
-        in->cells[2 * k + 1] = k == 31 ? 2 : 0;
+        in->cells[2 * k + 1] = k == INSTANTS - 1 ? 2 : 0;
     }
     in->value = 1;
 }
@@ -156,7 +158,7 @@ static void long_sequence(struct formula *f)
 {
     size_t p = go(f, 0);
     for (size_t i = 1; left(f) > 2 + 6; i++)
-        p = sequence(f, p, (i % 2 == 0 ? go : go_back)(f, i % 32));
+        p = sequence(f, p, (i % 2 == 0 ? go : go_back)(f, i % ATOMS));
     diamond(f, p, atom(f, 0));
 }
 
@@ -164,7 +166,7 @@ static void many_tests(struct formula *f)
 {
     size_t p = go(f, 0);
     for (size_t i = 1; left(f) > 3 + 5; i++)
-        p = choice(f, p, go(f, i % 32));
+        p = choice(f, p, go(f, i % ATOMS));
     box(f, star(f, p), atom(f, 1));
 }
 
@@ -200,7 +202,7 @@ static void nested_untils(struct formula *f)
 {
     size_t g = atom(f, 0);
     for (size_t i = 1; left(f) >= 6; i++)
-        g = diamond(f, star(f, go(f, i % 32)), g);
+        g = diamond(f, star(f, go(f, i % ATOMS)), g);
 }
 
 /* ---- random formulas */
@@ -251,17 +253,17 @@ size_t build_workloads(void)
     built("stars over step", 1, sparse_stars);
     built("stars in stars, with tests", 8, stars_in_stars);
     built("sequences of dense stars", 1, dense_sequences);
-    built("one long sequence", 32, long_sequence);
-    built("a star of many tests", 32, many_tests);
+    built("one long sequence", ATOMS, long_sequence);
+    built("a star of many tests", ATOMS, many_tests);
     built("tests inside tests", 1, nested_tests);
     built("boxes over choices", 4, boxes_over_choices);
     built("deep modalities", 1, deep_modalities);
-    built("untils inside untils", 32, nested_untils);
-    random_formulas("random, 7 records", 7, 32);
+    built("untils inside untils", ATOMS, nested_untils);
+    random_formulas("random, 7 records", 7, INSTANTS);
     random_formulas("random, 31 records, 8 instants", 31, 8);
-    random_formulas("random, 31 records", 31, 32);
-    random_formulas("random, 127 records", 127, 32);
-    random_formulas("random, 255 records, 16 instants", 255, 16);
-    random_formulas("random, 255 records", 255, 32);
+    random_formulas("random, 31 records", 31, INSTANTS);
+    random_formulas("random, 127 records", 127, INSTANTS);
+    random_formulas("random, 255 records, 16 instants", MOST_RECORDS, 16);
+    random_formulas("random, 255 records", MOST_RECORDS, INSTANTS);
     return count;
 }

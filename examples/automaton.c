@@ -1,8 +1,9 @@
 /* Source 003, section 4, formula (1): b always holds, and a holds at the next instant.
  *
- * The paper has it as one modality, with a test of a formula in its path, and as an "and" of the two; a trace that its automaton accepts
- * (figure 2) and one that it rejects (figure 3); and a deterministic automaton for it (listing 6). Here the two forms are compared over all
- * small traces, and the automaton runs over the total ones among them: it should accept where the value is 2. */
+ * The paper has it as one modality, with a test of a formula in its path, and as an "and" of the two; a trace that its
+ * automaton accepts (figure 2) and one that it rejects (figure 3); and a deterministic automaton for it (listing 6).
+ * Here the two forms are compared over all small traces, and the automaton runs over the total ones among them: it
+ * should accept where the value is 2. */
 #include "worked.h"
 
 enum { A, B, ATOMS, MOST_INSTANTS = 5 };
@@ -35,7 +36,8 @@ static const struct claim claims[] = {
 };
 
 /* ---- the automaton */
-/* Listing 6: where each state leads, by whether a and b hold. States 1 and 4 are the first and the final one, 2 has no way out. */
+/* Listing 6: where each state leads, by whether a and b hold. States 1 and 4 are the first and the final one, 2 has no
+ * way out. */
 static const int leads_to[][2][2] = {
     [1] = {{2, 3}, {2, 3}},
     [2] = {{2, 2}, {2, 2}},
@@ -88,8 +90,9 @@ static void compare_all(const struct formula *one)
     }
     printf("\n  all %zu traces of up to %d instants\n", c.traces, MOST_INSTANTS);
     printf("    the same values as ([step*]b) and <step>a over %zu   %s\n", c.equal, word(c.equal == c.traces));
-    printf("    total ones: %zu; the automaton accepts %zu; it accepts where the value is 2, and rejects elsewhere: %zu   %s\n", c.total,
-           c.accepted, c.right, word(c.right == c.total));
+    printf("    total ones: %zu; the automaton accepts %zu; "
+           "it accepts where the value is 2, and rejects elsewhere: %zu   %s\n",
+           c.total, c.accepted, c.right, word(c.right == c.total));
 }
 
 int main(void)

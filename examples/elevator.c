@@ -1,8 +1,9 @@
 /* Source 004, section 4: the elevator's plans for five floors, and those that keep its rule (13).
  *
- * The elevator stands at the middle floor and is called to the lowest and the highest; a plan must have served both at the end. The paper's
- * Table 3 has the number of plans, and says that two keep the rule at each horizon: all the way up and then straight down, or the
- * other way round, and then waiting. A horizon counts actions, so a trace has an instant more. */
+ * The elevator stands at the middle floor and is called to the lowest and the highest; a plan must have served both at
+ * the end. The paper's Table 3 has the number of plans, and says that two keep the rule at each horizon: all the way up
+ * and then straight down, or the other way round, and then waiting. A horizon counts actions, so a trace has an instant
+ * more. */
 #include "elevator.h"
 #include "worked.h"
 
@@ -76,11 +77,13 @@ static void show_plans(const struct formula *rule, const struct row *row)
     int same = s.plans == row->plans && s.kept == MOST_KEPT;
     for (size_t i = 0; i < MOST_KEPT; i++)
         same = same && is_due(s.kept_plan[i], beginnings[i]);
-    printf("  %7zu  %5zu  %4zu  %-12s  %-12s   %s\n", s.horizon, s.plans, s.kept, s.kept_plan[0], s.kept_plan[1], word(same));
+    printf("  %7zu  %5zu  %4zu  %-12s  %-12s   %s\n", s.horizon, s.plans, s.kept, s.kept_plan[0], s.kept_plan[1],
+           word(same));
 }
 
 /* ---- values at each instant */
-/* Plans, and what the formula in (13) that is twice negated is worth: 2 where the rest of the plan is rides to calls and then waiting. */
+/* Plans, and what the formula in (13) that is twice negated is worth: 2 where the rest of the plan is rides to calls
+ * and then waiting. */
 static const struct {
     const char *says, *plan, *values;
 } shown[] = {

@@ -1,19 +1,20 @@
 /* Source 004, section 3: its two worked translations, "p until q" and "p at all even instants".
  *
- * The paper names the formula gamma, one pass and then gamma alpha, a step and then gamma beta, and gives equations (2) to (6) and (7) to
- * (12) between their labels. They stand below as rules, unfolded as the paper unfolds (2), and the rule that asserts gamma at last. By its
- * lemma 1 the labels that keep the equations have their formulas' values; by its theorem 3 a trace satisfies gamma exactly if labels keep
- * the last rule too. Both are seen here: with the paper's rules over all small traces and all fillings, and with our translation, in which
- * each record has its label, and which leaves out (3) and (8), since they follow. */
+ * The paper names the formula gamma, one pass and then gamma alpha, a step and then gamma beta, and gives equations (2)
+ * to (6) and (7) to (12) between their labels. They stand below as rules, unfolded as the paper unfolds (2), and the
+ * rule that asserts gamma at last. By its lemma 1 the labels that keep the equations have their formulas' values; by
+ * its theorem 3 a trace satisfies gamma exactly if labels keep the last rule too. Both are seen here: with the paper's
+ * rules over all small traces and all fillings, and with our translation, in which each record has its label, and which
+ * leaves out (3) and (8), since they follow. */
+#include "rules.h"
 #include "worked.h"
 
 enum { MOST_SHOWN = 5, LABELS = 3, MOST_COLUMNS = 9, PAPER_RULES = 12 };
 
-/* The symbols of the paper's rules, a column each after the constants; and the places and marks of rules. */
-enum { NO, YES, GAMMA, ALPHA, BETA, P, Q, SYMBOLS };
-enum { EVERY, FIRST, LATER, LAST, PREVIOUS = 16384 };
+/* The symbols of the paper's rules, a column each. */
+enum { GAMMA = COLUMN, ALPHA, BETA, P, Q, SYMBOLS };
 
-typedef uint16_t rule[PASTUREQUILL_RULE_SIZE];
+typedef uint16_t rule[RULE_SIZE];
 
 /* Each symbol's values at each instant. */
 struct rows {
@@ -80,18 +81,18 @@ static const struct example {
      {until, until_alpha, until_beta},
      {"<(p? ; step)*>q", "<p? ; step>gamma", "<step>gamma"},
      {
-         {EVERY, GAMMA, YES, Q, ALPHA, NO},                  /* (2): gamma is q or alpha */
-         {EVERY, Q, YES, GAMMA, NO, NO},
-         {EVERY, ALPHA, YES, GAMMA, NO, NO},
-         {LAST, GAMMA, YES, Q, NO, NO},                      /* (3): at last, q */
-         {LAST, Q, YES, GAMMA, NO, NO},
-         {EVERY, ALPHA, YES, P, NO, NO},                     /* (4): alpha is p and beta */
-         {EVERY, ALPHA, YES, BETA, NO, NO},
+         {EVERY, GAMMA, YES, Q, ALPHA, NO},       /* (2): gamma is q or alpha */
+         {ARROW(EVERY, Q, GAMMA)},
+         {ARROW(EVERY, ALPHA, GAMMA)},
+         {ARROW(LAST, GAMMA, Q)},                 /* (3): at last, q */
+         {ARROW(LAST, Q, GAMMA)},
+         {ARROW(EVERY, ALPHA, P)},                /* (4): alpha is p and beta */
+         {ARROW(EVERY, ALPHA, BETA)},
          {EVERY, P, BETA, ALPHA, NO, NO},
-         {LATER, PREVIOUS + BETA, YES, GAMMA, NO, NO},       /* (5): beta is gamma next */
-         {LATER, GAMMA, YES, PREVIOUS + BETA, NO, NO},
-         {LAST, BETA, YES, NO, NO, NO},                      /* (6): at last, false */
-         {FIRST, YES, YES, GAMMA, NO, NO},
+         {ARROW(LATER, PREVIOUS + BETA, GAMMA)},  /* (5): beta is gamma next */
+         {ARROW(LATER, GAMMA, PREVIOUS + BETA)},
+         {ARROW(LAST, BETA, NO)},                 /* (6): at last, false */
+         {ARROW(FIRST, YES, GAMMA)},
      },
      18, {P, Q, P, ALPHA, BETA, ALPHA, GAMMA, Q, GAMMA}, 2,
      {
@@ -105,18 +106,18 @@ static const struct example {
      {even, even_alpha, even_beta},
      {"[(step ; step)*]p", "[step ; step]gamma", "[step]gamma"},
      {
-         {EVERY, GAMMA, YES, P, NO, NO},                     /* (7): gamma is p and alpha */
-         {EVERY, GAMMA, YES, ALPHA, NO, NO},
+         {ARROW(EVERY, GAMMA, P)},                /* (7): gamma is p and alpha */
+         {ARROW(EVERY, GAMMA, ALPHA)},
          {EVERY, P, ALPHA, GAMMA, NO, NO},
-         {LAST, GAMMA, YES, P, NO, NO},                      /* (8): at last, p */
-         {LAST, P, YES, GAMMA, NO, NO},
-         {LATER, PREVIOUS + ALPHA, YES, BETA, NO, NO},       /* (9): alpha is beta next */
-         {LATER, BETA, YES, PREVIOUS + ALPHA, NO, NO},
-         {LAST, YES, YES, ALPHA, NO, NO},                    /* (10): at last, true */
-         {LATER, PREVIOUS + BETA, YES, GAMMA, NO, NO},       /* (11): beta is gamma next */
-         {LATER, GAMMA, YES, PREVIOUS + BETA, NO, NO},
-         {LAST, YES, YES, BETA, NO, NO},                     /* (12): at last, true */
-         {FIRST, YES, YES, GAMMA, NO, NO},
+         {ARROW(LAST, GAMMA, P)},                 /* (8): at last, p */
+         {ARROW(LAST, P, GAMMA)},
+         {ARROW(LATER, PREVIOUS + ALPHA, BETA)},  /* (9): alpha is beta next */
+         {ARROW(LATER, BETA, PREVIOUS + ALPHA)},
+         {ARROW(LAST, YES, ALPHA)},               /* (10): at last, true */
+         {ARROW(LATER, PREVIOUS + BETA, GAMMA)},  /* (11): beta is gamma next */
+         {ARROW(LATER, GAMMA, PREVIOUS + BETA)},
+         {ARROW(LAST, YES, BETA)},                /* (12): at last, true */
+         {ARROW(FIRST, YES, GAMMA)},
      },
      16, {P, ALPHA, BETA, ALPHA, GAMMA, P, GAMMA}, 3,
      {
@@ -145,14 +146,14 @@ static struct rows rows_over(const struct example *e, const struct trace *t)
 }
 
 /* What the judge says of rules over the rows, laid out as these columns. */
-static pasturequill_judged judged(const uint16_t *rules, size_t count, const struct rows *rows, const uint8_t *columns, size_t width,
-                                  size_t instants)
+static pasturequill_judged judged(const uint16_t *rules, size_t count, const struct rows *rows, const uint8_t *columns,
+                                  size_t width, size_t instants)
 {
     uint8_t cells[MOST_COLUMNS * PASTUREQUILL_MOST_INSTANTS];
     for (size_t k = 0; k < instants; k++)
         for (size_t c = 0; c < width; c++)
             cells[k * width + c] = rows->of[columns[c]][k];
-    pasturequill_judged j = pasturequill_judge(rules, PASTUREQUILL_RULE_SIZE * count, width, instants, cells, width * instants);
+    pasturequill_judged j = pasturequill_judge(rules, RULE_SIZE * count, width, instants, cells, width * instants);
     if (j.refusal != PASTUREQUILL_ACCEPTED) {
         fprintf(stderr, "judging refused: %d\n", j.refusal);
         exit(2);
@@ -160,17 +161,19 @@ static pasturequill_judged judged(const uint16_t *rules, size_t count, const str
     return j;
 }
 
-/* Theorem 3: yes where gamma is worth 2 at the first instant. Elsewhere the last rule fails there, and no other does. */
+/* Theorem 3: yes where gamma is worth 2 at the first instant. Elsewhere the last rule fails there, and no other. */
 static void print_verdict(const char *whose, size_t count, pasturequill_judged j, uint8_t gamma)
 {
     printf("    %s %zu rules: ", whose, count);
     if (j.holds)
         printf("yes   %s\n", word(gamma == 2));
     else
-        printf("no, rule %d at instant %d   %s\n", (int)j.rule, (int)j.instant, word(gamma < 2 && j.rule == count - 1 && j.instant == 0));
+        printf("no, rule %d at instant %d   %s\n", (int)j.rule, (int)j.instant,
+               word(gamma < 2 && j.rule == count - 1 && j.instant == 0));
 }
 
-static void show_trace(const struct example *e, const struct formula *f, const struct rules *ours, const struct claim *c)
+static void show_trace(const struct example *e, const struct formula *f, const struct rules *ours,
+                       const struct claim *c)
 {
     static const char *const names[] = {"gamma", "alpha", "beta"};
     struct trace t = trace_of(strlen(e->atoms), c->atoms);
@@ -180,8 +183,10 @@ static void show_trace(const struct example *e, const struct formula *f, const s
         print_row(names[i], rows.of[GAMMA + i], t.instants);
         printf("\n");
     }
-    print_verdict("the paper's", PAPER_RULES, judged(e->paper[0], PAPER_RULES, &rows, paper_columns, LABELS + t.atoms, t.instants), gamma);
-    print_verdict("our", ours->count, judged(ours->words, ours->count, &rows, e->columns, t.atoms + f->n, t.instants), gamma);
+    print_verdict("the paper's", PAPER_RULES,
+                  judged(e->paper[0], PAPER_RULES, &rows, paper_columns, LABELS + t.atoms, t.instants), gamma);
+    print_verdict("our", ours->count, judged(ours->words, ours->count, &rows, e->columns, t.atoms + f->n, t.instants),
+                  gamma);
 }
 
 /* ---- lemma 1, over all traces and all fillings of the labels */
@@ -189,7 +194,8 @@ struct search {
     size_t traces, fillings, kept, right;
 };
 
-/* Tries all fillings over one trace with all rules but the last, and counts those that keep them and those of them that are the values. */
+/* Tries all fillings over one trace with all rules but the last, and counts those that keep them and those of them that
+ * are the values. */
 static void try_fillings(const struct example *e, const struct trace *t, struct search *s)
 {
     size_t n = LABELS * t->instants;
@@ -216,8 +222,9 @@ static void search(const struct example *e)
             try_fillings(e, &t, &s);
         } while (next_trace(&t));
     }
-    printf("\n  all %zu traces of up to %zu instants, all %zu fillings of the three labels, the paper's rules but the last:\n", s.traces,
-           e->most_searched, s.fillings);
+    printf("\n  all %zu traces of up to %zu instants, all %zu fillings of the three labels, "
+           "the paper's rules but the last:\n",
+           s.traces, e->most_searched, s.fillings);
     printf("    %zu fillings keep them, %zu of these are the values   %s\n", s.kept, s.right,
            word(s.kept == s.traces && s.right == s.traces));
 }

@@ -1,7 +1,7 @@
 /* Document 01's examples by letter that are not among those computed by proofs.
  *
- * N: at the only instant a box over a step asks for nothing, and a diamond is worth 0. O: what is just taken and just not, by the numbers
- * that the services give back. */
+ * N: at the only instant a box over a step asks for nothing, and a diamond is worth 0. O: what is just taken and just
+ * not, by the numbers that the services give back. */
 #include "worked.h"
 
 /* ---- N */
@@ -28,16 +28,16 @@ static void add_nexts(struct formula *f, size_t end, size_t often)
 }
 
 /* Asks the services over records, with one atom at one instant. */
-static void show_records(const uint8_t *records, size_t n, uint8_t due)
+static void show_records(const struct formula *f, uint8_t due)
 {
-    static uint8_t table[PASTUREQUILL_MOST_RECORDS + 1];
-    static uint16_t rules[PASTUREQUILL_RULE_SIZE * PASTUREQUILL_MOST_RULES];
+    static uint8_t table[MOST_RECORDS + 1];
+    static uint16_t rules[PASTUREQUILL_MOST_RULE_WORDS];
     static const uint8_t p = 2;
-    size_t size = PASTUREQUILL_RECORD_SIZE * n;
-    uint8_t checked = pasturequill_check(records, size, 1);
-    uint8_t valued = pasturequill_value(records, size, 1, 1, &p, 1, table, sizeof table).refusal;
-    uint8_t translated = pasturequill_translate(records, size, 1, rules, sizeof rules / sizeof *rules).refusal;
-    printf("  %zu records: checking %d, valuing %d, translating %d   %s\n", n, checked, valued, translated,
+    size_t size = size_of(f);
+    uint8_t checked = pasturequill_check(f->records, size, 1);
+    uint8_t valued = pasturequill_value(f->records, size, 1, 1, &p, 1, table, sizeof table).refusal;
+    uint8_t translated = pasturequill_translate(f->records, size, 1, rules, PASTUREQUILL_MOST_RULE_WORDS).refusal;
+    printf("  %zu records: checking %d, valuing %d, translating %d   %s\n", f->n, checked, valued, translated,
            word(checked == due && valued == due && translated == due));
 }
 
@@ -45,47 +45,45 @@ static void show_longest(void)
 {
     struct formula f = {.n = 0};
     add_nexts(&f, atom(&f, 0), 127);
-    show_records(f.records, f.n, PASTUREQUILL_ACCEPTED);
+    show_records(&f, PASTUREQUILL_ACCEPTED);
 }
 
-/* p and p under 126 nexts, of which the last does not fit a formula: nothing is wrong with the 256 records but their number. */
+/* p and p under 126 nexts: nothing is wrong with the 256 records but their number. */
 static void show_too_long(void)
 {
-    static const uint8_t next[] = {PASTUREQUILL_STEP, 0, 0, 0, 0, 0, PASTUREQUILL_DIAMOND, 0, 254, 0, 253, 0};
-    uint8_t records[PASTUREQUILL_RECORD_SIZE * 256];
     struct formula f = {.n = 0};
     size_t p = atom(&f, 0);
-    add_nexts(&f, both(&f, p, atom(&f, 0)), 125);
-    memcpy(records, f.records, PASTUREQUILL_RECORD_SIZE * 254);
-    memcpy(records + PASTUREQUILL_RECORD_SIZE * 254, next, sizeof next);
-    show_records(records, 256, PASTUREQUILL_WRONG_LENGTH);
+    add_nexts(&f, both(&f, p, atom(&f, 0)), 126);
+    show_records(&f, PASTUREQUILL_WRONG_LENGTH);
 }
 
 /* ---- O: cells */
+enum { MOST_INSTANTS = PASTUREQUILL_MOST_INSTANTS };
+
 /* Asks the services over cells, with the formula p, which is atom 0, and with no rules. */
 static void show_cells(const char *what, size_t atoms, size_t instants, const uint8_t *cells, uint8_t due)
 {
-    uint8_t table[PASTUREQUILL_MOST_INSTANTS + 1];
+    uint8_t table[MOST_INSTANTS + 1];
     struct formula f = {.n = 0};
     atom(&f, 0);
-    uint8_t valued = pasturequill_value(f.records, PASTUREQUILL_RECORD_SIZE * f.n, atoms, instants, cells, atoms * instants, table,
-                                        sizeof table)
-                         .refusal;
-    uint8_t judged = pasturequill_judge(NULL, 0, atoms, instants, cells, atoms * instants).refusal;
+    size_t size = atoms * instants;
+    uint8_t valued =
+        pasturequill_value(f.records, size_of(&f), atoms, instants, cells, size, table, sizeof table).refusal;
+    uint8_t judged = pasturequill_judge(NULL, 0, atoms, instants, cells, size).refusal;
     printf("  %s: valuing %d, judging %d   %s\n", what, valued, judged, word(valued == due && judged == due));
 }
 
 int main(void)
 {
-    static const uint8_t zeros[33], in_p[] = {3, 0}, beside_p[] = {0, 3};
+    static const uint8_t zeros[MOST_INSTANTS + 1], in_p[] = {3, 0}, beside_p[] = {0, 3};
     printf("N  over one instant\n");
     show_n("[step]p", box, 2);
     show_n("<step>p", diamond, 0);
     printf("\nO  taken, 0, or refused\n");
     show_longest();
     show_too_long();
-    show_cells("32 instants", 1, 32, zeros, PASTUREQUILL_ACCEPTED);
-    show_cells("33 instants", 1, 33, zeros, PASTUREQUILL_WRONG_SIZE);
+    show_cells("32 instants", 1, MOST_INSTANTS, zeros, PASTUREQUILL_ACCEPTED);
+    show_cells("33 instants", 1, MOST_INSTANTS + 1, zeros, PASTUREQUILL_WRONG_SIZE);
     show_cells("a cell 3 in p, the formula being p", 2, 1, in_p, PASTUREQUILL_WRONG_CELL);
     show_cells("a cell 3 in another atom", 2, 1, beside_p, PASTUREQUILL_WRONG_CELL);
     printf("\n");

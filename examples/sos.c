@@ -1,10 +1,10 @@
-/* Source 004, section 2, formula (1): while no help is perceived, send an sos. It is the paper's example for stable traces, and for
- * what was concluded being given up when more is known.
+/* Source 004, section 2, formula (1): while no help is perceived, send an sos. It is the paper's example for stable
+ * traces, and for what was concluded being given up when more is known.
  *
- * A total trace, without the value 1, is stable if it satisfies the formula and no trace does that has the same there and less here. The
- * paper says: of each length there is one stable trace of the formula, with an sos at each instant and help at none. With the further
- * demand that there is help after five steps, there is one of each length above five: an sos five times, then help and no sos, then
- * neither. Here all traces of some lengths are tried. */
+ * A total trace, without the value 1, is stable if it satisfies the formula and no trace does that has the same there
+ * and less here. The paper says: of each length there is one stable trace of the formula, with an sos at each instant
+ * and help at none. With the further demand that there is help after five steps, there is one of each length above
+ * five: an sos five times, then help and no sos, then neither. Here all traces of some lengths are tried. */
 #include "worked.h"
 
 enum { H, S, ATOMS };
@@ -65,8 +65,8 @@ static size_t always_sending(struct formula *f)
     return box(f, way, sending(f));
 }
 
-/* <(not h and s)^5 ; (h and not s) ; (not h and not s)*>true. Each formula in the path is tested and time steps on, so that the path asks
- * for an instant after the one of the help. */
+/* <(not h and s)^5 ; (h and not s) ; (not h and not s)*>true. Each formula in the path is tested and time steps on, so
+ * that the path asks for an instant after the one of the help. */
 static size_t sent_five_times(struct formula *f)
 {
     size_t alone = no_help(f);
@@ -84,7 +84,8 @@ static size_t sent_five_times(struct formula *f)
 /* ---- formula (1) on single traces */
 static const struct claim claims[] = {
     {"no help, and an sos always", {"0000", "2222"}, "2222"},
-    {"one sos only assumed: not satisfied, so this sos cannot be taken away from the trace above", {"0000", "2212"}, "1112"},
+    {"one sos only assumed: not satisfied, so this sos cannot be taken away from the trace above", {"0000", "2212"},
+     "1112"},
     {"no help, and the sos stops", {"0000", "2200"}, "0000"},
     {"help only assumed: satisfied, so the total trace with this help is not stable", {"0010", "2200"}, "2220"},
     {"sos five times, then help", {"00000200", "22222000"}, "22222200"},
@@ -112,7 +113,8 @@ static int next_total(struct trace *t)
     return 0;
 }
 
-/* Counts on through the traces with the same there, from a total one: 0 when it is back there. All between have less here. */
+/* Counts on through the traces with the same there, from a total one: 0 when it is back there. All between have less
+ * here. */
 static int next_lower(struct trace *t)
 {
     for (size_t c = 0; c < t->atoms * t->instants; c++) {
@@ -172,8 +174,8 @@ static void write_letters(const struct trace *t, char *letters)
     letters[t->instants] = 0;
 }
 
-/* The stable trace that is due, one of each length or none; what the paper's two descriptions are worth over it; and where that is not
- * what the paper says, a word on it. */
+/* The stable trace that is due, one of each length or none; what the paper's two descriptions are worth over it; and
+ * where that is not what the paper says, a word on it. */
 struct due {
     size_t instants;
     const char *letters;
@@ -182,11 +184,12 @@ struct due {
 };
 
 static const struct due without_help[] = {
-    {1, "s", 2, 0, ""}, {2, "ss", 2, 0, ""}, {3, "sss", 2, 0, ""}, {4, "ssss", 2, 0, ""}, {5, "sssss", 2, 0, ""}, {6, "ssssss", 2, 0, ""},
+    {1, "s", 2, 0, ""},    {2, "ss", 2, 0, ""},    {3, "sss", 2, 0, ""},
+    {4, "ssss", 2, 0, ""}, {5, "sssss", 2, 0, ""}, {6, "ssssss", 2, 0, ""},
 };
 
-/* Of five instants none is five steps away. Of six the help is at the last one, and the second description's path, as the paper writes it,
- * cannot step on from there. */
+/* Of five instants none is five steps away. Of six the help is at the last one, and the second description's path, as
+ * the paper writes it, cannot step on from there. */
 static const struct due with_help[] = {
     {5, NULL, 0, 0, ""},
     {6, "sssssh", 0, 0, ", but the description asks for a seventh instant"},
@@ -208,7 +211,8 @@ static void show_stable(const struct formula *f, const struct due *due)
     always_sending(&always);
     sent_five_times(&five);
     uint8_t is_always = value_at_first(&always, &found.last), is_five = value_at_first(&five, &found.last);
-    int same = found.stable == 1 && strcmp(letters, due->letters) == 0 && is_always == due->always && is_five == due->five;
+    int same =
+        found.stable == 1 && strcmp(letters, due->letters) == 0 && is_always == due->always && is_five == due->five;
     printf("  %-8s  %6d  %6d   %s%s\n", letters, is_always, is_five, word(same), due->but);
 }
 
@@ -226,7 +230,9 @@ int main(void)
     show_claims();
     show_all_stable("the stable traces of (1), among all total traces", keep_sending, without_help,
                     sizeof without_help / sizeof *without_help);
-    show_all_stable("the stable traces of (1) and <step^5>h", sending_and_help, with_help, sizeof with_help / sizeof *with_help);
-    printf("\n  always   [step*](not h and s)\n  5 times  <(not h and s)^5 ; (h and not s) ; (not h and not s)*>true\n\n");
+    show_all_stable("the stable traces of (1) and <step^5>h", sending_and_help, with_help,
+                    sizeof with_help / sizeof *with_help);
+    printf("\n  always   [step*](not h and s)\n"
+           "  5 times  <(not h and s)^5 ; (h and not s) ; (not h and not s)*>true\n\n");
     return status();
 }

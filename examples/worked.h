@@ -1,5 +1,5 @@
-/* What the worked examples share: traces written out atom by atom, a formula's values over them, and whether these are what the source
- * says. Each program ends with status 1 if anything differs from it. */
+/* What the worked examples share: traces written out atom by atom, a formula's values over them, and whether these are
+ * what the source says. Each program ends with status 1 if anything differs from it. */
 #ifndef WORKED_H
 #define WORKED_H
 
@@ -45,8 +45,8 @@ static inline int next_trace(struct trace *t)
 /* A formula's values at each instant, for a formula and a trace that the library takes; gives the one at the first. */
 static inline uint8_t value_row(const struct formula *f, const struct trace *t, uint8_t *row)
 {
-    static uint8_t table[PASTUREQUILL_MOST_RECORDS * PASTUREQUILL_MOST_INSTANTS];
-    pasturequill_valued v = pasturequill_value(f->records, PASTUREQUILL_RECORD_SIZE * f->n, t->atoms, t->instants, t->cells,
+    static uint8_t table[MOST_RECORDS * PASTUREQUILL_MOST_INSTANTS];
+    pasturequill_valued v = pasturequill_value(f->records, size_of(f), t->atoms, t->instants, t->cells,
                                                t->atoms * t->instants, table, sizeof table);
     if (v.refusal != PASTUREQUILL_ACCEPTED) {
         fprintf(stderr, "valuing refused: %d\n", v.refusal);
@@ -99,7 +99,8 @@ static inline void print_trace(const struct trace *t, const char *names)
     }
 }
 
-/* Prints a formula's values over a trace, and the word: they are due as digits. Gives the value at the first instant. */
+/* Prints a formula's values over a trace, and the word: they are due as digits. Gives the value at the first
+ * instant. */
 static inline uint8_t show_values(const char *name, const struct formula *f, const struct trace *t, const char *due)
 {
     uint8_t row[PASTUREQUILL_MOST_INSTANTS], value = value_row(f, t, row);
@@ -127,7 +128,7 @@ static inline uint8_t show_claim(const struct claim *c, const char *names, const
 /* ---- rules */
 struct rules {
     size_t count;
-    uint16_t words[PASTUREQUILL_RULE_SIZE * PASTUREQUILL_MOST_RULES];
+    uint16_t words[PASTUREQUILL_MOST_RULE_WORDS];
 };
 
 /* A formula's rules; prints how many there are, which is due by the sum in document 01. */
@@ -135,9 +136,10 @@ static inline struct rules show_rules(const struct formula *f, size_t atoms, siz
 {
     struct rules r;
     pasturequill_counted c =
-        pasturequill_translate(f->records, PASTUREQUILL_RECORD_SIZE * f->n, atoms, r.words, sizeof r.words / sizeof *r.words);
+        pasturequill_translate(f->records, size_of(f), atoms, r.words, PASTUREQUILL_MOST_RULE_WORDS);
     r.count = c.count;
-    printf("  its translation: %zu records, %zu rules   %s\n", f->n, r.count, word(c.refusal == PASTUREQUILL_ACCEPTED && r.count == due));
+    printf("  its translation: %zu records, %zu rules   %s\n", f->n, r.count,
+           word(c.refusal == PASTUREQUILL_ACCEPTED && r.count == due));
     return r;
 }
 

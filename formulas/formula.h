@@ -1,47 +1,52 @@
-/* Building a formula record by record: each function adds one and gives its number. */
+/* Building a formula record by record: each function adds records and gives the number of the last. */
 #ifndef FORMULA_H
 #define FORMULA_H
 
 #include <stdio.h>
 #include <stdlib.h>
 
-#include "pasturequill.h"
+#include "records.h"
+
+/* There is room for more records than a formula may have, so that too long ones can be built. */
+enum { RECORDS_ROOM = 1000 };
 
 struct formula {
-    uint8_t records[PASTUREQUILL_RECORD_SIZE * PASTUREQUILL_MOST_RECORDS];
+    uint8_t records[RECORD_SIZE * RECORDS_ROOM];
     size_t n;
 };
 
-/* How many records are left. */
-static inline size_t left(const struct formula *f)
+/* In bytes. */
+static inline size_t size_of(const struct formula *f) { return RECORD_SIZE * f->n; }
+
+/* How many more records a formula may have. */
+static inline size_t left(const struct formula *f) { return MOST_RECORDS - f->n; }
+
+static inline void set_record(struct formula *f, size_t r, uint8_t kind, size_t a, size_t b)
 {
-    return PASTUREQUILL_MOST_RECORDS - f->n;
+    put_record(f->records + RECORD_SIZE * r, kind, a, b);
 }
+
+/* Makes it a record of another kind over the same fields. */
+static inline void set_kind(struct formula *f, size_t r, uint8_t kind) { f->records[RECORD_SIZE * r + KIND] = kind; }
 
 static inline size_t add(struct formula *f, uint8_t kind, size_t a, size_t b)
 {
-    if (left(f) == 0) {
-        fprintf(stderr, "a formula has more than %d records\n", PASTUREQUILL_MOST_RECORDS);
+    if (f->n == RECORDS_ROOM) {
+        fprintf(stderr, "there is no room for more than %d records\n", RECORDS_ROOM);
         exit(2);
     }
-    uint8_t *record = f->records + PASTUREQUILL_RECORD_SIZE * f->n;
-    record[0] = kind;
-    record[1] = 0;
-    record[2] = (uint8_t)a;
-    record[3] = 0;
-    record[4] = (uint8_t)b;
-    record[5] = 0;
+    set_record(f, f->n, kind, a, b);
     return f->n++;
 }
 
 static inline size_t no(struct formula *f) { return add(f, PASTUREQUILL_FALSE, 0, 0); }
 static inline size_t yes(struct formula *f) { return add(f, PASTUREQUILL_TRUE, 0, 0); }
 static inline size_t atom(struct formula *f, size_t i) { return add(f, PASTUREQUILL_ATOM, i, 0); }
-static inline size_t diamond(struct formula *f, size_t path, size_t end) { return add(f, PASTUREQUILL_DIAMOND, path, end); }
-static inline size_t box(struct formula *f, size_t path, size_t end) { return add(f, PASTUREQUILL_BOX, path, end); }
+static inline size_t diamond(struct formula *f, size_t p, size_t g) { return add(f, PASTUREQUILL_DIAMOND, p, g); }
+static inline size_t box(struct formula *f, size_t p, size_t g) { return add(f, PASTUREQUILL_BOX, p, g); }
 static inline size_t step(struct formula *f) { return add(f, PASTUREQUILL_STEP, 0, 0); }
 static inline size_t back(struct formula *f) { return add(f, PASTUREQUILL_BACK, 0, 0); }
-static inline size_t test(struct formula *f, size_t tested) { return add(f, PASTUREQUILL_TEST, tested, 0); }
+static inline size_t test(struct formula *f, size_t g) { return add(f, PASTUREQUILL_TEST, g, 0); }
 static inline size_t choice(struct formula *f, size_t p, size_t q) { return add(f, PASTUREQUILL_CHOICE, p, q); }
 static inline size_t sequence(struct formula *f, size_t p, size_t q) { return add(f, PASTUREQUILL_SEQUENCE, p, q); }
 static inline size_t star(struct formula *f, size_t p) { return add(f, PASTUREQUILL_STAR, p, 0); }
