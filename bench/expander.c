@@ -4,7 +4,8 @@
 #include "checker.h"
 #include "records.h"
 
-size_t own_records(uint8_t kind)
+/* How many records come out for one record of a kind that is taken, those of its children apart. */
+static size_t own_records(uint8_t kind)
 {
     static const uint8_t more[PASTUREQUILL_SINCE + 1] = {
         [PASTUREQUILL_NOT] = 2,           [PASTUREQUILL_AND] = 1,        [PASTUREQUILL_OR] = 4,

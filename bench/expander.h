@@ -9,7 +9,4 @@
 pasturequill_counted expand_checked(const uint8_t *records, size_t records_size, uint64_t atoms, uint8_t *out,
                                     size_t out_size);
 
-/* How many records come out for one record of a kind that is taken, those of its children apart. */
-size_t own_records(uint8_t kind);
-
 #endif

@@ -9,6 +9,7 @@
 #include "damage.h"
 #include "expander.h"
 #include "shapes.h"
+#include "shorthands.h"
 
 enum { ATOMS = PASTUREQUILL_MOST_ATOMS, MOST_FORMULAS = 16 };
 
@@ -47,32 +48,6 @@ static struct comparison comparison = {
 };
 
 /* ---- shorthands */
-/* How many arguments each has: a formula in field a, or one in each. */
-static const struct shorthand {
-    const char *name;
-    uint8_t kind;
-    int arguments;
-} shorthands[] = {
-    {"not", PASTUREQUILL_NOT, 1},
-    {"and", PASTUREQUILL_AND, 2},
-    {"or", PASTUREQUILL_OR, 2},
-    {"implies", PASTUREQUILL_IMPLIES, 2},
-    {"final", PASTUREQUILL_FINAL, 0},
-    {"initial", PASTUREQUILL_INITIAL, 0},
-    {"next", PASTUREQUILL_NEXT, 1},
-    {"weak next", PASTUREQUILL_WEAK_NEXT, 1},
-    {"previous", PASTUREQUILL_PREVIOUS, 1},
-    {"weak previous", PASTUREQUILL_WEAK_PREVIOUS, 1},
-    {"eventually", PASTUREQUILL_EVENTUALLY, 1},
-    {"always", PASTUREQUILL_ALWAYS, 1},
-    {"once", PASTUREQUILL_ONCE, 1},
-    {"so far", PASTUREQUILL_SO_FAR, 1},
-    {"until", PASTUREQUILL_UNTIL, 2},
-    {"since", PASTUREQUILL_SINCE, 2},
-};
-
-enum { SHORTHANDS = sizeof shorthands / sizeof *shorthands };
-
 /* The shorthand around a formula, an atom being its other argument; one without arguments stands beside the formula. */
 static size_t around(struct formula *f, const struct shorthand *s, size_t g)
 {
@@ -89,8 +64,8 @@ static size_t around(struct formula *f, const struct shorthand *s, size_t g)
 /* How many records come out for one more. */
 static size_t around_size(const struct shorthand *s)
 {
-    size_t own = own_records(s->kind);
-    return s->arguments == 0 ? own + own_records(PASTUREQUILL_AND) : s->arguments == 1 ? own : own + 1;
+    enum { AND_OWN = 2 };
+    return s->own + (s->arguments == 0 ? AND_OWN : s->arguments - 1);
 }
 
 /* One around the other, as often as so many records out, or 255 in, allow. */
@@ -105,13 +80,12 @@ static void nest(struct formula *f, const struct shorthand *s, size_t most)
 static size_t at_random(struct formula *f, size_t room)
 {
     const struct shorthand *s = &shorthands[below(SHORTHANDS)];
-    size_t own = own_records(s->kind), arguments = (size_t)s->arguments;
-    if (room < own + arguments)
+    if (room < s->own + s->arguments)
         return atom(f, below(ATOMS));
-    if (arguments == 0)
-        return room > 2 * own ? at_random(f, room) : add(f, s->kind, 0, 0);
-    size_t rest = room - own, first = arguments == 1 ? rest : 1 + below(rest - 1);
-    size_t a = at_random(f, first), b = arguments == 1 ? 0 : at_random(f, rest - first);
+    if (s->arguments == 0)
+        return room > 2 * s->own ? at_random(f, room) : add(f, s->kind, 0, 0);
+    size_t rest = room - s->own, first = s->arguments == 1 ? rest : 1 + below(rest - 1);
+    size_t a = at_random(f, first), b = s->arguments == 1 ? 0 : at_random(f, rest - first);
     return add(f, s->kind, a, b);
 }
 

@@ -1,5 +1,5 @@
-/* Fresh bytes, which stand in room before a function writes to it: none is a value or a kind, no two of them are a literal of a
- * translation, and they are not the same everywhere. */
+/* Fresh bytes, which are in room before a function writes to it: none is a value or a kind, no two of them are a
+ * literal of a translation, and they are not the same everywhere. */
 #ifndef FRESH_H
 #define FRESH_H
 

@@ -1,5 +1,5 @@
-/* Bytes that end, or start, at a page that may not be touched: a read or a write outside them stops the test. What a function may only
- * read is in pages that can only be read. */
+/* Bytes that end, or start, at a page that may not be touched: a read or a write outside them stops the test. What a
+ * function may only read is in pages that can only be read. */
 #ifndef GUARDED_H
 #define GUARDED_H
 
@@ -20,26 +20,52 @@ static inline void guarded_must(int fine)
     }
 }
 
+static inline size_t guarded_page(void)
+{
+    return (size_t)sysconf(_SC_PAGESIZE);
+}
+
 /* Pages of so many bytes, a multiple of a page's, with an untouchable page before and after them. */
 static inline uint8_t *guarded_pages(size_t size)
 {
-    size_t page = (size_t)sysconf(_SC_PAGESIZE);
+    size_t page = guarded_page();
     uint8_t *base = mmap(NULL, size + 2 * page, PROT_NONE, MAP_PRIVATE | MAP_ANONYMOUS, -1, 0);
     guarded_must(base != MAP_FAILED && mprotect(base + page, size, PROT_READ | PROT_WRITE) == 0);
     return base + page;
 }
 
-/* A copy of `size` bytes in pages of its own with this protection, untouchable pages around. It is kept until the test ends. */
+/* The copies that there are, up to as many as one call takes. */
+enum { MOST_GUARDED = 3 };
+
+static struct {
+    uint8_t *start;
+    size_t size;
+} guarded_copies[MOST_GUARDED];
+static size_t guarded_count;
+
+/* A copy of `size` bytes in pages of its own with this protection, untouchable pages around, until the next release. */
 static inline uint8_t *guarded_copy(const uint8_t *bytes, size_t size, enum guarded_edge edge, int protection)
 {
-    size_t page = (size_t)sysconf(_SC_PAGESIZE);
-    size_t inner = (size / page + 1) * page;
+    size_t inner = (size / guarded_page() + 1) * guarded_page();
     uint8_t *start = guarded_pages(inner);
     uint8_t *at = edge == GUARDED_AT_END ? start + inner - size : start;
+    guarded_must(guarded_count < MOST_GUARDED);
+    guarded_copies[guarded_count].start = start;
+    guarded_copies[guarded_count++].size = inner;
     if (size != 0)
         memcpy(at, bytes, size);
     guarded_must(mprotect(start, inner, protection) == 0);
     return at;
+}
+
+/* Gives all copies back. */
+static inline void guarded_release(void)
+{
+    while (guarded_count > 0) {
+        guarded_count--;
+        size_t page = guarded_page(), size = guarded_copies[guarded_count].size + 2 * page;
+        guarded_must(munmap(guarded_copies[guarded_count].start - page, size) == 0);
+    }
 }
 
 /* A copy that may only be read. */

@@ -1,17 +1,22 @@
-/* pasturequill_judge over tables of cases, over every rule of a few literals, and over every set of faults in one input. Each input of the
- * tables is handed over at both edges of memory that may not be touched, and in memory that may only be read. */
+/* pasturequill_judge over tables of cases, over every rule of a few literals, and around the greatest sizes. But for
+ * the rules of a few literals, each input is handed over at both edges of memory that may not be touched, and in memory
+ * that may only be read. */
 #define TEST_NAME "judge"
 
 #include "counts.h"
 #include "guarded.h"
-#include "pasturequill.h"
 #include "rules.h"
-#include "slices.h"
+#include "tables.h"
 
-enum { MOST_RULES = 1021, MOST_WIDTH = 287, MOST_INSTANTS = 32 };
+enum {
+    MOST_RULES = PASTUREQUILL_MOST_RULES,
+    MOST_WIDTH = PASTUREQUILL_MOST_COLUMNS,
+    MOST_INSTANTS = PASTUREQUILL_MOST_INSTANTS,
+    MOST_CELLS = MOST_WIDTH * MOST_INSTANTS
+};
 
-/* The third column. */
-enum { R = Q + 1 };
+/* The first three columns. */
+enum { P = COLUMN, Q, R };
 
 /* ---- the call */
 static void compare(const char *reason, pasturequill_judged got, pasturequill_judged expected)
@@ -31,12 +36,16 @@ static void expect(const char *reason, struct words rules, uint64_t width, uint6
                 pasturequill_judge((const uint16_t *)(const void *)words, rules.size, width, instants,
                                    guarded(cells.at, cells.size, edge), cells.size),
                 expected);
+        guarded_release();
     }
 }
 
-static pasturequill_judged refused(int number) { return (pasturequill_judged){.refusal = (uint8_t)number}; }
+static pasturequill_judged refused(uint8_t refusal) { return (pasturequill_judged){.refusal = refusal}; }
 static pasturequill_judged yes(void) { return (pasturequill_judged){.holds = 1}; }
-static pasturequill_judged no(uint64_t rule, uint64_t instant) { return (pasturequill_judged){.rule = rule, .instant = instant}; }
+static pasturequill_judged no(uint64_t rule, uint64_t instant)
+{
+    return (pasturequill_judged){.rule = rule, .instant = instant};
+}
 
 /* ---- accepted inputs */
 #define ALL_HOLD {.holds = 1}
@@ -50,9 +59,12 @@ struct judged {
     struct bytes cells;
 };
 
-/* The translation of "p next" as document 01 prints it, over 32 atoms: columns 32 to 34 are the labels of step, atom and diamond. */
-#define NEXT WORDS(LATER, PREVIOUS + 34, 1, 35, 0, 0, LATER, 35, 1, PREVIOUS + 34, 0, 0, LAST, 34, 1, 0, 0, 0, EVERY, 35, 1, 2, 0, 0, \
-                   EVERY, 2, 1, 35, 0, 0, EVERY, 36, 1, 34, 0, 0, EVERY, 34, 1, 36, 0, 0, FIRST, 1, 1, 36, 0, 0)
+/* The translation of "p next" over 32 atoms, with the labels of step, atom and diamond. */
+enum { ON = COLUMN + 32, ATOM, WHOLE };
+#define NEXT                                                                                                      \
+    WORDS(ARROW(LATER, PREVIOUS + ON, ATOM), ARROW(LATER, ATOM, PREVIOUS + ON), ARROW(LAST, ON, NO),              \
+          ARROW(EVERY, ATOM, P), ARROW(EVERY, P, ATOM), ARROW(EVERY, WHOLE, ON), ARROW(EVERY, ON, WHOLE),         \
+          ARROW(FIRST, YES, WHOLE))
 /* Two rows of these 35 columns: p and the three labels; the other atoms are 0. */
 #define NEXT_ROWS(p0, step0, atom0, diamond0, p1, step1, atom1, diamond1) \
     BYTES([0] = p0, [32] = step0, [33] = atom0, [34] = diamond0, [35] = p1, [67] = step1, [68] = atom1, [69] = diamond1)
@@ -67,7 +79,8 @@ static const struct judged judged[] = {
     /* no columns: the constants */
     {"true is true", ALL_HOLD, 0, 1, WORDS(ARROW(EVERY, YES, YES)), NONE},
     {"false implies false", ALL_HOLD, 0, 1, WORDS(ARROW(EVERY, NO, NO)), NONE},
-    {"true does not imply false: rule 0, instant 0, and not a yes", FAILS(0, 0), 0, 1, WORDS(ARROW(EVERY, YES, NO)), NONE},
+    {"true does not imply false: rule 0, instant 0, and not a yes", FAILS(0, 0), 0, 1, WORDS(ARROW(EVERY, YES, NO)),
+     NONE},
     {"not false is true", ALL_HOLD, 0, 1, WORDS(ARROW(EVERY, YES, NOT + NO)), NONE},
     {"not true is false", FAILS(0, 0), 0, 1, WORDS(ARROW(EVERY, YES, NOT + YES)), NONE},
     {"all words 0 hold", ALL_HOLD, 0, 2, WORDS(0, 0, 0, 0, 0, 0), NONE},
@@ -90,7 +103,8 @@ static const struct judged judged[] = {
     {"not 1 is 0 in a body", ALL_HOLD, 1, 1, WORDS(ARROW(EVERY, NOT + P, NO)), BYTES(1)},
     {"not 2 is 0", FAILS(0, 0), 1, 1, WORDS(ARROW(EVERY, YES, NOT + P)), BYTES(2)},
     {"not 0 in a body is due", FAILS(0, 0), 2, 1, WORDS(ARROW(EVERY, NOT + P, Q)), BYTES(0, 1)},
-    {"x, a or not c, all assumed, is less than due", FAILS(0, 0), 3, 1, WORDS(EVERY, YES, YES, P, Q, NOT + R), BYTES(1, 1, 1)},
+    {"x, a or not c, all assumed, is less than due", FAILS(0, 0), 3, 1, WORDS(EVERY, YES, YES, P, Q, NOT + R),
+     BYTES(1, 1, 1)},
     {"x, a or not c, c false", ALL_HOLD, 3, 1, WORDS(EVERY, YES, YES, P, Q, NOT + R), BYTES(1, 1, 0)},
 
     /* every word is looked at, also those that a rule need not use */
@@ -116,11 +130,13 @@ static const struct judged judged[] = {
     {"one instant: all but the first are none", ALL_HOLD, 0, 1, WORDS(ARROW(LATER, YES, NO)), NONE},
     {"one instant: it is the first", FAILS(0, 0), 0, 1, WORDS(ARROW(FIRST, YES, NO)), NONE},
     {"one instant: it is the last", FAILS(0, 0), 0, 1, WORDS(ARROW(LAST, YES, NO)), NONE},
-    {"one instant: the rule behind one without instants", FAILS(1, 0), 0, 1, WORDS(ARROW(LATER, YES, NO), ARROW(LAST, YES, NO)), NONE},
+    {"one instant: the rule behind one without instants", FAILS(1, 0), 0, 1,
+     WORDS(ARROW(LATER, YES, NO), ARROW(LAST, YES, NO)), NONE},
 
     /* the previous instant */
     {"what p was, q is", ALL_HOLD, 2, 3, WORDS(ARROW(LATER, PREVIOUS + P, Q)), BYTES(1, 0, 2, 1, 2, 2)},
-    {"what p was, q is not at the last instant", FAILS(0, 2), 2, 3, WORDS(ARROW(LATER, PREVIOUS + P, Q)), BYTES(1, 0, 2, 1, 2, 1)},
+    {"what p was, q is not at the last instant", FAILS(0, 2), 2, 3, WORDS(ARROW(LATER, PREVIOUS + P, Q)),
+     BYTES(1, 0, 2, 1, 2, 1)},
     {"what q is, p was", FAILS(0, 1), 2, 3, WORDS(ARROW(LATER, Q, PREVIOUS + P)), BYTES(0, 0, 2, 1, 2, 2)},
     {"what p is at the last instant was never", ALL_HOLD, 1, 2, WORDS(ARROW(LATER, PREVIOUS + P, NO)), BYTES(0, 2)},
     {"p was not", ALL_HOLD, 1, 2, WORDS(ARROW(LATER, YES, NOT + PREVIOUS + P)), BYTES(0, 2)},
@@ -138,22 +154,24 @@ static const struct judged judged[] = {
     /* the first rule that fails, and its first failing instant */
     {"the first rule comes before an earlier instant", FAILS(1, 2), 2, 4,
      WORDS(ARROW(EVERY, NO, P), ARROW(EVERY, YES, P), ARROW(EVERY, YES, Q)), BYTES(2, 0, 2, 0, 0, 0, 1, 0)},
-    {"the first instant of the first rule", FAILS(0, 1), 1, 4, WORDS(ARROW(EVERY, YES, P), ARROW(FIRST, YES, NO)), BYTES(2, 1, 0, 2)},
-    {"the last rule at the last instant", FAILS(2, 1), 1, 2, WORDS(ARROW(EVERY, P, P), ARROW(FIRST, YES, P), ARROW(EVERY, YES, P)),
-     BYTES(2, 1)},
+    {"the first instant of the first rule", FAILS(0, 1), 1, 4, WORDS(ARROW(EVERY, YES, P), ARROW(FIRST, YES, NO)),
+     BYTES(2, 1, 0, 2)},
+    {"the last rule at the last instant", FAILS(2, 1), 1, 2,
+     WORDS(ARROW(EVERY, P, P), ARROW(FIRST, YES, P), ARROW(EVERY, YES, P)), BYTES(2, 1)},
     {"the same rule twice", FAILS(0, 1), 1, 2, WORDS(ARROW(EVERY, YES, P), ARROW(EVERY, YES, P)), BYTES(2, 1)},
 
     /* the translation that document 01 prints */
     {"p next, as it is", ALL_HOLD, 35, 2, NEXT, NEXT_ROWS(0, 2, 0, 2, 2, 0, 2, 0)},
     {"p next, a step past the end", FAILS(2, 1), 35, 2, NEXT, NEXT_ROWS(0, 2, 0, 2, 2, 2, 2, 2)},
     {"p next, a label too small", FAILS(6, 0), 35, 2, NEXT, NEXT_ROWS(0, 2, 0, 1, 2, 0, 2, 0)},
-    {"p next, p assumed: the labels are right, the whole is not", FAILS(7, 0), 35, 2, NEXT, NEXT_ROWS(0, 1, 0, 1, 1, 0, 1, 0)},
+    {"p next, p assumed: the labels are right, the whole is not", FAILS(7, 0), 35, 2, NEXT,
+     NEXT_ROWS(0, 1, 0, 1, 1, 0, 1, 0)},
 };
 
 /* ---- refused inputs */
 struct refused {
     const char *reason;
-    int refusal;
+    uint8_t refusal;
     uint64_t width, instants;
     struct words rules;
     struct bytes cells;
@@ -163,125 +181,78 @@ struct refused {
 #define FAILING WORDS(ARROW(EVERY, YES, NO))
 
 static const struct refused refusals[] = {
-    /* 8: width, instants, cells */
-    {"no instants", 8, 1, 0, NONE, NONE},
-    {"no instants and no columns", 8, 0, 0, HOLDING, NONE},
-    {"33 instants and no columns", 8, 0, 33, HOLDING, NONE},
-    {"a cell too few", 8, 2, 2, HOLDING, BYTES(0, 0, 0)},
-    {"a cell too many", 8, 2, 2, HOLDING, BYTES(0, 0, 0, 0, 0)},
-    {"a row too many", 8, 2, 1, HOLDING, BYTES(0, 0, 0, 0)},
-    {"no cells", 8, 1, 1, HOLDING, NONE},
-    {"a cell where there are no columns", 8, 0, 1, HOLDING, BYTES(0)},
-    {"2^63 columns at 2 instants, whose product is 0 in 64 bits", 8, UINT64_C(1) << 63, 2, HOLDING, NONE},
-    {"2^63 instants of 2 columns, whose product is 0 in 64 bits", 8, 2, UINT64_C(1) << 63, HOLDING, NONE},
-    {"2^32 columns at 2^32 instants", 8, UINT64_C(1) << 32, UINT64_C(1) << 32, HOLDING, NONE},
-    {"2^63 + 1 instants of 2 columns, whose product is 2 in 64 bits", 8, 2, (UINT64_C(1) << 63) + 1, HOLDING, BYTES(0, 0)},
-    {"2^32 + 1 columns, whose low half is 1", 8, (UINT64_C(1) << 32) + 1, 1, HOLDING, BYTES(0)},
-    {"2^32 + 1 instants, whose low half is 1", 8, 1, (UINT64_C(1) << 32) + 1, HOLDING, BYTES(0)},
-    {"2^64 - 1 columns and instants, whose product is 1 in 64 bits", 8, UINT64_MAX, UINT64_MAX, HOLDING, BYTES(0)},
-    {"2^64 - 1 columns, which two more would turn into one symbol", 8, UINT64_MAX, 1, HOLDING, NONE},
+    /* width, instants, cells */
+    ROW(WRONG_SIZE, "no instants", 1, 0, NONE, NONE),
+    ROW(WRONG_SIZE, "no instants and no columns", 0, 0, HOLDING, NONE),
+    ROW(WRONG_SIZE, "33 instants and no columns", 0, 33, HOLDING, NONE),
+    ROW(WRONG_SIZE, "a cell too few", 2, 2, HOLDING, BYTES(0, 0, 0)),
+    ROW(WRONG_SIZE, "a cell too many", 2, 2, HOLDING, BYTES(0, 0, 0, 0, 0)),
+    ROW(WRONG_SIZE, "a row too many", 2, 1, HOLDING, BYTES(0, 0, 0, 0)),
+    ROW(WRONG_SIZE, "no cells", 1, 1, HOLDING, NONE),
+    ROW(WRONG_SIZE, "a cell where there are no columns", 0, 1, HOLDING, BYTES(0)),
+    ROW(WRONG_SIZE, "2^63 columns at 2 instants, a product of 0 in 64 bits", TWO_TO(63), 2, HOLDING, NONE),
+    ROW(WRONG_SIZE, "2^63 instants of 2 columns, a product of 0 in 64 bits", 2, TWO_TO(63), HOLDING, NONE),
+    ROW(WRONG_SIZE, "2^32 columns at 2^32 instants", TWO_TO(32), TWO_TO(32), HOLDING, NONE),
+    ROW(WRONG_SIZE, "2^63 + 1 instants of 2 columns, a product of 2 in 64 bits", 2, TWO_TO(63) + 1, HOLDING,
+        BYTES(0, 0)),
+    ROW(WRONG_SIZE, "2^32 + 1 columns, whose low half is 1", TWO_TO(32) + 1, 1, HOLDING, BYTES(0)),
+    ROW(WRONG_SIZE, "2^32 + 1 instants, whose low half is 1", 1, TWO_TO(32) + 1, HOLDING, BYTES(0)),
+    ROW(WRONG_SIZE, "2^64 - 1 of both, a product of 1 in 64 bits", UINT64_MAX, UINT64_MAX, HOLDING, BYTES(0)),
+    ROW(WRONG_SIZE, "2^64 - 1 columns, which two more would turn into one symbol", UINT64_MAX, 1, HOLDING, NONE),
 
-    /* 13: the number of words */
-    {"one word", 13, 0, 1, WORDS(0), NONE},
-    {"five words", 13, 0, 1, WORDS(0, 0, 0, 0, 0), NONE},
-    {"a rule and a word", 13, 0, 1, WORDS(ARROW(EVERY, NO, NO), 0), NONE},
-    {"a rule that fails, and three words", 13, 0, 1, WORDS(ARROW(EVERY, YES, NO), 0, 0, 0), NONE},
-    {"two rules but for a word", 13, 0, 1, WORDS(ARROW(EVERY, NO, NO), 0, 0, 0, 0, 0), NONE},
+    /* the number of words */
+    ROW(WRONG_RULES, "one word", 0, 1, WORDS(0), NONE),
+    ROW(WRONG_RULES, "five words", 0, 1, WORDS(0, 0, 0, 0, 0), NONE),
+    ROW(WRONG_RULES, "a rule and a word", 0, 1, WORDS(ARROW(EVERY, NO, NO), 0), NONE),
+    ROW(WRONG_RULES, "a rule that fails, and three words", 0, 1, WORDS(ARROW(EVERY, YES, NO), 0, 0, 0), NONE),
+    ROW(WRONG_RULES, "two rules but for a word", 0, 1, WORDS(ARROW(EVERY, NO, NO), 0, 0, 0, 0, 0), NONE),
 
-    /* 13: the place */
-    {"place 4", 13, 0, 1, WORDS(ARROW(4, NO, NO)), NONE},
-    {"place 256, whose low byte is 0", 13, 0, 1, WORDS(ARROW(256, NO, NO)), NONE},
-    {"place 16,384", 13, 0, 1, WORDS(ARROW(16384, NO, NO)), NONE},
-    {"place 32,769", 13, 0, 1, WORDS(ARROW(32769, NO, NO)), NONE},
-    {"place 65,535", 13, 0, 1, WORDS(ARROW(65535, NO, NO)), NONE},
-    {"a second rule's place", 13, 0, 1, WORDS(ARROW(EVERY, NO, NO), ARROW(4, NO, NO)), NONE},
+    /* the place */
+    ROW(WRONG_RULES, "place 4", 0, 1, WORDS(ARROW(LAST + 1, NO, NO)), NONE),
+    ROW(WRONG_RULES, "place 256, whose low byte is 0", 0, 1, WORDS(ARROW(256, NO, NO)), NONE),
+    ROW(WRONG_RULES, "place 16,384", 0, 1, WORDS(ARROW(PREVIOUS, NO, NO)), NONE),
+    ROW(WRONG_RULES, "place 32,769", 0, 1, WORDS(ARROW(NOT + 1, NO, NO)), NONE),
+    ROW(WRONG_RULES, "place 65,535", 0, 1, WORDS(ARROW(UINT16_MAX, NO, NO)), NONE),
+    ROW(WRONG_RULES, "a second rule's place", 0, 1, WORDS(ARROW(EVERY, NO, NO), ARROW(LAST + 1, NO, NO)), NONE),
 
-    /* 13: the symbol */
-    {"a column where there are none", 13, 0, 1, WORDS(ARROW(EVERY, P, NO)), NONE},
-    {"the first column past the last", 13, 2, 1, WORDS(ARROW(EVERY, R, NO)), BYTES(0, 0)},
-    {"its negation", 13, 2, 1, WORDS(ARROW(EVERY, NOT + R, NO)), BYTES(0, 0)},
-    {"what it was", 13, 2, 2, WORDS(ARROW(LATER, PREVIOUS + R, NO)), BYTES(0, 0, 0, 0)},
-    {"the negation of what it was", 13, 2, 2, WORDS(ARROW(LATER, NOT + PREVIOUS + R, NO)), BYTES(0, 0, 0, 0)},
-    {"the greatest symbol", 13, 2, 1, WORDS(ARROW(EVERY, 16383, NO)), BYTES(0, 0)},
-    {"symbol 258, whose low byte is a column's", 13, 2, 1, WORDS(ARROW(EVERY, 258, NO)), BYTES(0, 0)},
-    {"word 65,535 in the place that has a previous instant", 13, 2, 1, WORDS(ARROW(LATER, 65535, NO)), BYTES(0, 0)},
-    {"a symbol in a rule that has no instant", 13, 0, 1, WORDS(ARROW(LATER, P, NO)), NONE},
-    {"a symbol behind a false body", 13, 0, 1, WORDS(EVERY, NO, NO, P, NO, NO), NONE},
-    {"a symbol behind a true head", 13, 0, 1, WORDS(EVERY, YES, YES, YES, NO, P), NONE},
+    /* the symbol */
+    ROW(WRONG_RULES, "a column where there are none", 0, 1, WORDS(ARROW(EVERY, P, NO)), NONE),
+    ROW(WRONG_RULES, "the first column past the last", 2, 1, WORDS(ARROW(EVERY, R, NO)), BYTES(0, 0)),
+    ROW(WRONG_RULES, "its negation", 2, 1, WORDS(ARROW(EVERY, NOT + R, NO)), BYTES(0, 0)),
+    ROW(WRONG_RULES, "what it was", 2, 2, WORDS(ARROW(LATER, PREVIOUS + R, NO)), BYTES(0, 0, 0, 0)),
+    ROW(WRONG_RULES, "the negation of what it was", 2, 2, WORDS(ARROW(LATER, NOT + PREVIOUS + R, NO)),
+        BYTES(0, 0, 0, 0)),
+    ROW(WRONG_RULES, "the greatest symbol", 2, 1, WORDS(ARROW(EVERY, PREVIOUS - 1, NO)), BYTES(0, 0)),
+    ROW(WRONG_RULES, "symbol 258, whose low byte is a column's", 2, 1, WORDS(ARROW(EVERY, 258, NO)), BYTES(0, 0)),
+    ROW(WRONG_RULES, "word 65,535 where previous may be", 2, 1, WORDS(ARROW(LATER, UINT16_MAX, NO)), BYTES(0, 0)),
+    ROW(WRONG_RULES, "a symbol in a rule that has no instant", 0, 1, WORDS(ARROW(LATER, P, NO)), NONE),
+    ROW(WRONG_RULES, "a symbol behind a false body", 0, 1, WORDS(EVERY, NO, NO, P, NO, NO), NONE),
+    ROW(WRONG_RULES, "a symbol behind a true head", 0, 1, WORDS(EVERY, YES, YES, YES, NO, P), NONE),
 
-    /* 13: previous */
-    {"previous at every instant", 13, 1, 2, WORDS(ARROW(EVERY, PREVIOUS + P, NO)), BYTES(0, 0)},
-    {"previous at the first instant", 13, 1, 2, WORDS(ARROW(FIRST, PREVIOUS + P, NO)), BYTES(0, 0)},
-    {"previous at the last instant", 13, 1, 2, WORDS(ARROW(LAST, PREVIOUS + P, NO)), BYTES(0, 0)},
-    {"previous, negated, at the last instant", 13, 1, 2, WORDS(ARROW(LAST, NOT + PREVIOUS + P, NO)), BYTES(0, 0)},
+    /* previous */
+    ROW(WRONG_RULES, "previous at every instant", 1, 2, WORDS(ARROW(EVERY, PREVIOUS + P, NO)), BYTES(0, 0)),
+    ROW(WRONG_RULES, "previous at the first instant", 1, 2, WORDS(ARROW(FIRST, PREVIOUS + P, NO)), BYTES(0, 0)),
+    ROW(WRONG_RULES, "previous at the last instant", 1, 2, WORDS(ARROW(LAST, PREVIOUS + P, NO)), BYTES(0, 0)),
+    ROW(WRONG_RULES, "previous, negated, at the last instant", 1, 2, WORDS(ARROW(LAST, NOT + PREVIOUS + P, NO)),
+        BYTES(0, 0)),
 
-    /* 9: the cells */
-    {"a cell of 3", 9, 1, 1, HOLDING, BYTES(3)},
-    {"a cell of 255", 9, 1, 2, HOLDING, BYTES(0, 255)},
-    {"a cell of 3 that no rule names", 9, 2, 2, WORDS(ARROW(EVERY, P, P)), BYTES(0, 0, 0, 3)},
-    {"a cell of 3 where there are no rules", 9, 1, 1, NONE, BYTES(3)},
-    {"a cell of 3 behind the failure", 9, 1, 2, FAILING, BYTES(0, 3)},
+    /* the cells */
+    ROW(WRONG_CELL, "a cell of 3", 1, 1, HOLDING, BYTES(3)),
+    ROW(WRONG_CELL, "a cell of 255", 1, 2, HOLDING, BYTES(0, 255)),
+    ROW(WRONG_CELL, "a cell of 3 that no rule names", 2, 2, WORDS(ARROW(EVERY, P, P)), BYTES(0, 0, 0, 3)),
+    ROW(WRONG_CELL, "a cell of 3 where there are no rules", 1, 1, NONE, BYTES(3)),
+    ROW(WRONG_CELL, "a cell of 3 behind the failure", 1, 2, FAILING, BYTES(0, 3)),
 
     /* two faults */
-    {"no instants before a word too few", 8, 0, 0, WORDS(0), NONE},
-    {"a cell too many before place 4", 8, 0, 1, WORDS(ARROW(4, NO, NO)), BYTES(0)},
-    {"a cell too many before a cell of 3", 8, 1, 1, HOLDING, BYTES(0, 3)},
-    {"a word too few before a cell of 3", 13, 1, 1, WORDS(0), BYTES(3)},
-    {"a second rule's place before a cell of 3", 13, 1, 1, WORDS(ARROW(EVERY, NO, NO), ARROW(4, NO, NO)), BYTES(3)},
-    {"a second rule's symbol before a first rule's failure", 13, 0, 1, WORDS(ARROW(EVERY, YES, NO), ARROW(EVERY, NO, P)), NONE},
+    ROW(WRONG_SIZE, "no instants before a word too few", 0, 0, WORDS(0), NONE),
+    ROW(WRONG_SIZE, "a cell too many before place 4", 0, 1, WORDS(ARROW(LAST + 1, NO, NO)), BYTES(0)),
+    ROW(WRONG_SIZE, "a cell too many before a cell of 3", 1, 1, HOLDING, BYTES(0, 3)),
+    ROW(WRONG_RULES, "a word too few before a cell of 3", 1, 1, WORDS(0), BYTES(3)),
+    ROW(WRONG_RULES, "a second rule's place before a cell of 3", 1, 1,
+        WORDS(ARROW(EVERY, NO, NO), ARROW(LAST + 1, NO, NO)), BYTES(3)),
+    ROW(WRONG_RULES, "a second rule's symbol before a first rule's failure", 0, 1,
+        WORDS(ARROW(EVERY, YES, NO), ARROW(EVERY, NO, P)), NONE),
 };
-
-/* ---- every set of faults */
-enum size_fault { SIZES_FINE, WIDTH_288, NO_INSTANTS, INSTANTS_33, CELL_MISSING, CELL_MORE, SIZE_FAULTS };
-enum rule_fault { RULES_FINE, WORD_MORE, RULE_MORE, PLACE_4, SYMBOL_PAST, PREVIOUS_ELSEWHERE, PREVIOUS_CONSTANT, RULE_FAULTS };
-
-/* The number that must come out: 8, 13, 9 in this order. */
-static int earliest(enum size_fault sizes, enum rule_fault rule, int cell)
-{
-    return sizes ? 8 : rule ? 13 : cell ? 9 : 0;
-}
-
-/* 1,021 rules over 287 columns and 32 instants, all of which hold, or the first one fails: all sets of faults, those of rules in the last
- * rule, that of a cell in the last cell. */
-static void sets(void)
-{
-    static uint16_t words[RULE_SIZE * (MOST_RULES + 1)];
-    static uint8_t cells[(MOST_WIDTH + 1) * (MOST_INSTANTS + 1)];
-
-    for (int sizes = 0; sizes < SIZE_FAULTS; sizes++)
-        for (int rule = 0; rule < RULE_FAULTS; rule++)
-            for (int more = 0; more < 4; more++) {
-                int cell = more & 1, fails = more >> 1;
-                uint64_t width = sizes == WIDTH_288 ? MOST_WIDTH + 1 : MOST_WIDTH;
-                uint64_t instants = sizes == NO_INSTANTS ? 0 : sizes == INSTANTS_33 ? MOST_INSTANTS + 1 : MOST_INSTANTS;
-                struct words rules = {words, RULE_SIZE * MOST_RULES};
-                struct bytes trace = {cells, (size_t)(width * instants)};
-                memset(words, 0, sizeof words);
-                memset(cells, 2, sizeof cells);
-                if (fails)
-                    words[1] = words[2] = YES;
-                uint16_t *last = words + RULE_SIZE * (MOST_RULES - 1);
-                switch ((enum rule_fault)rule) {
-                case WORD_MORE: rules.size++; break;
-                case RULE_MORE: rules.size += RULE_SIZE; break;
-                case PLACE_4: last[0] = 4; break;
-                case SYMBOL_PAST: last[5] = 2 + MOST_WIDTH; break;
-                case PREVIOUS_ELSEWHERE: last[5] = PREVIOUS + P; break;
-                case PREVIOUS_CONSTANT: last[5] = NOT + PREVIOUS + NO; break;
-                default: break;
-                }
-                /* One symbol further is a column where there is one more, so that a width too great is a fault by itself. */
-                if (rule == SYMBOL_PAST && sizes == WIDTH_288)
-                    last[5]++;
-                trace.size += (size_t)(sizes == CELL_MORE) - (size_t)(sizes == CELL_MISSING);
-                if (cell && trace.size != 0)
-                    cells[trace.size - 1] = 3;
-                int refusal = earliest(sizes, rule, cell);
-                char reason[96];
-                snprintf(reason, sizeof reason, "set: sizes %d, rule %d, cell %d, first rule fails %d", sizes, rule, cell, fails);
-                expect(reason, rules, width, instants, trace, refusal ? refused(refusal) : fails ? no(0, 0) : yes());
-            }
-}
 
 /* ---- every rule of a few literals */
 /* Both constants and a column of each value, and the negations of these: every way of filling a rule's five words. */
@@ -291,7 +262,8 @@ static void every_rule(void)
     static const struct {
         uint16_t word;
         int value;
-    } literals[] = {{NO, 0}, {YES, 2}, {P, 0}, {Q, 1}, {R, 2}, {NOT + NO, 2}, {NOT + YES, 0}, {NOT + P, 2}, {NOT + Q, 0}, {NOT + R, 0}};
+    } literals[] = {{NO, 0},       {YES, 2},       {P, 0},       {Q, 1},       {R, 2},
+                    {NOT + NO, 2}, {NOT + YES, 0}, {NOT + P, 2}, {NOT + Q, 0}, {NOT + R, 0}};
     enum { LITERALS = sizeof literals / sizeof *literals };
 
     for (int drawn = 0; drawn < LITERALS * LITERALS * LITERALS * LITERALS * LITERALS; drawn++) {
@@ -311,8 +283,8 @@ static void every_rule(void)
     }
 }
 
-/* Each constant with each set of marks, in each word of a rule of each place: previous is for one place, and changes no constant. The rule
- * fails where the constant is true and stands in a body, or is false and stands in a head. */
+/* Each constant with each set of marks, in each word of a rule of each place: previous is for one place, and changes no
+ * constant. The rule fails where the constant is true and in the body, or is false and in the head. */
 static void marked_constants(void)
 {
     for (uint16_t place = EVERY; place <= LAST; place++)
@@ -327,13 +299,14 @@ static void marked_constants(void)
                 char reason[64];
                 snprintf(reason, sizeof reason, "constant %d in word %zu, place %d", word, at, place);
                 expect(reason, (struct words){rule, RULE_SIZE}, 0, 3, (struct bytes)NONE,
-                       (i >> 1 & 1) && place != LATER ? refused(13) : fails ? no(0, instant) : yes());
+                       (i >> 1 & 1) && place != LATER ? refused(PASTUREQUILL_WRONG_RULES)
+                       : fails                             ? no(0, instant) : yes());
             }
 }
 
 /* ---- places at every instant */
-/* A column that is 2 but at one instant, where it is 1: what is due fails there if the place has that instant. And the same one instant
- * later by what the column was. */
+/* A column that is 2 but at one instant, where it is 1: what is due fails there if the place has that instant. And the
+ * same one instant later by what the column was. */
 static void every_instant(void)
 {
     static const uint64_t lengths[] = {1, 2, 3, 31, 32};
@@ -359,62 +332,106 @@ static void every_instant(void)
 }
 
 /* ---- the greatest sizes */
-static void greatest_sizes(void)
-{
-    static uint16_t words[RULE_SIZE * (MOST_RULES + 1)];
-    static uint8_t cells[(MOST_WIDTH + 1) * (MOST_INSTANTS + 1)];
-    struct words most = {words, RULE_SIZE * MOST_RULES};
-    struct bytes trace = {cells, MOST_WIDTH * MOST_INSTANTS};
-    char reason[96];
+static uint16_t words[MOST_WORDS + RULE_SIZE];
+static uint8_t cells[(MOST_WIDTH + 1) * (MOST_INSTANTS + 1)];
+static const struct words most_words = {words, MOST_WORDS};
 
-    /* Rule i asks for column i, and again from the first one; all is 2. */
+static void set_rule(size_t i, int place, int body, int head)
+{
+    const uint16_t rule[] = {ARROW((uint16_t)place, (uint16_t)body, (uint16_t)head)};
+    memcpy(words + RULE_SIZE * i, rule, sizeof rule);
+}
+
+/* The rules over as many columns and instants as there may be. */
+static void expect_most(const char *reason, pasturequill_judged expected)
+{
+    expect(reason, most_words, MOST_WIDTH, MOST_INSTANTS, (struct bytes){cells, MOST_CELLS}, expected);
+}
+
+/* Rule i asks for column i, and again from the first one; all is 2. */
+static void ask_for_all(void)
+{
     memset(cells, 2, sizeof cells);
     for (size_t i = 0; i <= MOST_RULES; i++)
-        memcpy(words + RULE_SIZE * i, (uint16_t[]){ARROW(EVERY, YES, (uint16_t)(2 + i % MOST_WIDTH))}, sizeof(uint16_t[RULE_SIZE]));
-    expect("1,021 rules, 287 columns, 32 instants", most, MOST_WIDTH, MOST_INSTANTS, trace, yes());
-    expect("1,022 rules", (struct words){words, most.size + RULE_SIZE}, MOST_WIDTH, MOST_INSTANTS, trace, refused(13));
-    expect("1,021 rules and a word", (struct words){words, most.size + 1}, MOST_WIDTH, MOST_INSTANTS, trace, refused(13));
-    expect("1,021 rules but for a word", (struct words){words, most.size - 1}, MOST_WIDTH, MOST_INSTANTS, trace, refused(13));
-    expect("288 columns", most, MOST_WIDTH + 1, MOST_INSTANTS, (struct bytes){cells, 288 * 32}, refused(8));
-    expect("33 instants", most, MOST_WIDTH, MOST_INSTANTS + 1, (struct bytes){cells, 287 * 33}, refused(8));
-    expect("286 columns, of which the rules name one more", most, MOST_WIDTH - 1, MOST_INSTANTS, (struct bytes){cells, 286 * 32},
-           refused(13));
+        set_rule(i, EVERY, YES, COLUMN + (int)(i % MOST_WIDTH));
+}
 
-    /* One cell less than due, or over 2: the rule of its column is the first that fails. */
+/* A word, a rule, a column or an instant more or less than there may be. */
+static void around_the_most(void)
+{
+    static const struct {
+        const char *reason;
+        uint8_t refusal;
+        size_t words, width, instants;
+    } sizes[] = {
+        ROW(ACCEPTED, "1,021 rules, 287 columns, 32 instants", MOST_WORDS, MOST_WIDTH, MOST_INSTANTS),
+        ROW(WRONG_RULES, "1,022 rules", MOST_WORDS + RULE_SIZE, MOST_WIDTH, MOST_INSTANTS),
+        ROW(WRONG_RULES, "1,021 rules and a word", MOST_WORDS + 1, MOST_WIDTH, MOST_INSTANTS),
+        ROW(WRONG_RULES, "1,021 rules but for a word", MOST_WORDS - 1, MOST_WIDTH, MOST_INSTANTS),
+        ROW(WRONG_SIZE, "288 columns", MOST_WORDS, MOST_WIDTH + 1, MOST_INSTANTS),
+        ROW(WRONG_SIZE, "33 instants", MOST_WORDS, MOST_WIDTH, MOST_INSTANTS + 1),
+        ROW(WRONG_RULES, "286 columns, of which the rules name one more", MOST_WORDS, MOST_WIDTH - 1, MOST_INSTANTS),
+    };
+    ask_for_all();
+    for (size_t i = 0; i < sizeof sizes / sizeof *sizes; i++)
+        expect(sizes[i].reason, (struct words){words, sizes[i].words}, sizes[i].width, sizes[i].instants,
+               (struct bytes){cells, sizes[i].width * sizes[i].instants},
+               sizes[i].refusal == PASTUREQUILL_ACCEPTED ? yes() : refused(sizes[i].refusal));
+}
+
+/* One cell less than due, or over 2: the rule of its column is the first that fails. */
+static void one_cell(void)
+{
     static const size_t places[] = {0, 1, 286, 287, 288, 4591, 9182, 9183};
+    char reason[96];
+    ask_for_all();
     for (size_t i = 0; i < sizeof places / sizeof *places; i++) {
         cells[places[i]] = 1;
         snprintf(reason, sizeof reason, "cell %zu of 9,184 is 1", places[i]);
-        expect(reason, most, MOST_WIDTH, MOST_INSTANTS, trace, no(places[i] % MOST_WIDTH, places[i] / MOST_WIDTH));
+        expect_most(reason, no(places[i] % MOST_WIDTH, places[i] / MOST_WIDTH));
         cells[places[i]] = 3;
         snprintf(reason, sizeof reason, "cell %zu of 9,184 is 3", places[i]);
-        expect(reason, most, MOST_WIDTH, MOST_INSTANTS, trace, refused(9));
+        expect_most(reason, refused(PASTUREQUILL_WRONG_CELL));
         cells[places[i]] = 2;
     }
+}
 
-    /* Nothing is asked up to a rule, and from there on column 286, which is 0 from an instant on. */
+/* Nothing is asked up to a rule, and from there on the last column, which is 0 from an instant on. */
+static void first_failures(void)
+{
     static const size_t rules[] = {0, 1, 510, 1019, 1020};
     static const size_t instants[] = {0, 1, 16, 31};
+    char reason[96];
+    memset(cells, 2, sizeof cells);
     for (size_t i = 0; i < sizeof rules / sizeof *rules; i++)
         for (size_t j = 0; j < sizeof instants / sizeof *instants; j++) {
             for (size_t r = 0; r < MOST_RULES; r++)
-                memcpy(words + RULE_SIZE * r, (uint16_t[]){ARROW(EVERY, r < rules[i] ? NO : YES, 288)}, sizeof(uint16_t[RULE_SIZE]));
+                set_rule(r, EVERY, r < rules[i] ? NO : YES, COLUMN + MOST_WIDTH - 1);
             for (size_t k = 0; k < MOST_INSTANTS; k++)
-                cells[k * MOST_WIDTH + 286] = k < instants[j] ? 2 : 0;
-            snprintf(reason, sizeof reason, "1,021 rules, the first failure in rule %zu at instant %zu", rules[i], instants[j]);
-            expect(reason, most, MOST_WIDTH, MOST_INSTANTS, trace, no(rules[i], instants[j]));
+                cells[k * MOST_WIDTH + MOST_WIDTH - 1] = k < instants[j] ? 2 : 0;
+            snprintf(reason, sizeof reason, "1,021 rules, the first failure in rule %zu at instant %zu", rules[i],
+                     instants[j]);
+            expect_most(reason, no(rules[i], instants[j]));
         }
+}
 
-    /* In each word of the last rule: the last symbol of 287 columns is taken with and without its marks, the next one is not. */
+/* In each word of the last rule: the last column's symbol is taken with and without its marks, the next one is not. */
+static void last_symbols(void)
+{
+    enum { LAST_SYMBOL = COLUMN + MOST_WIDTH - 1 };
+    static const uint16_t marks[] = {0, PREVIOUS, NOT, NOT + PREVIOUS};
+    uint16_t *last = words + MOST_WORDS - RULE_SIZE;
+    char reason[96];
+    memset(words, 0, sizeof words);
+    memset(cells, 0, sizeof cells);
     for (size_t at = 1; at < RULE_SIZE; at++)
-        for (uint16_t marks = 0; marks < 4; marks++)
-            for (uint16_t symbol = 288; symbol <= 290; symbol++) {
-                memset(words, 0, sizeof words);
-                memset(cells, 0, sizeof cells);
-                words[most.size - RULE_SIZE] = LATER;
-                words[most.size - RULE_SIZE + at] = (uint16_t)(symbol + marks * PREVIOUS);
-                snprintf(reason, sizeof reason, "symbol %d of 289 with marks %d in word %zu", symbol, marks, at);
-                expect(reason, most, MOST_WIDTH, MOST_INSTANTS, trace, symbol == 288 ? yes() : refused(13));
+        for (size_t i = 0; i < sizeof marks / sizeof *marks; i++)
+            for (uint16_t symbol = LAST_SYMBOL; symbol <= LAST_SYMBOL + 2; symbol++) {
+                memset(last, 0, RULE_SIZE * sizeof *last);
+                last[0] = LATER;
+                last[at] = symbol + marks[i];
+                snprintf(reason, sizeof reason, "symbol %d of 289 with marks %d in word %zu", symbol, marks[i], at);
+                expect_most(reason, symbol == LAST_SYMBOL ? yes() : refused(PASTUREQUILL_WRONG_RULES));
             }
 }
 
@@ -422,11 +439,12 @@ static void greatest_sizes(void)
 static void no_addresses(void)
 {
     static const uint16_t rule[] = {ARROW(LAST, YES, NO)};
-    static const uint8_t cells[] = {0, 1};
+    static const uint8_t two[] = {0, 1};
     compare("no address for no rules and no cells", pasturequill_judge(NULL, 0, 0, 1, NULL, 0), yes());
-    compare("no address for no rules", pasturequill_judge(NULL, 0, 1, 2, cells, 2), yes());
+    compare("no address for no rules", pasturequill_judge(NULL, 0, 1, 2, two, 2), yes());
     compare("no address for no cells", pasturequill_judge(rule, RULE_SIZE, 0, 2, NULL, 0), no(0, 1));
-    compare("no address, and no instants", pasturequill_judge(NULL, 0, 0, 0, NULL, 0), refused(8));
+    compare("no address, and no instants", pasturequill_judge(NULL, 0, 0, 0, NULL, 0),
+            refused(PASTUREQUILL_WRONG_SIZE));
 }
 
 int main(void)
@@ -439,12 +457,13 @@ int main(void)
         const struct refused *v = refusals + i;
         expect(v->reason, v->rules, v->width, v->instants, v->cells, refused(v->refusal));
     }
-    sets();
     every_rule();
     marked_constants();
     every_instant();
-    greatest_sizes();
+    around_the_most();
+    one_cell();
+    first_failures();
+    last_symbols();
     no_addresses();
-
     return counts_told();
 }

@@ -1,21 +1,25 @@
-/* Room for a function to write: what stands in it before a call, and what must stand in it after. */
+/* Room for a function to write: what is in it before a call, and what must be in it after. */
 #ifndef ROOM_H
 #define ROOM_H
 
 #include "counts.h"
 #include "fresh.h"
 #include "guarded.h"
-#include "slices.h"
+#include "tables.h"
 
-/* Fresh room of so many bytes, up to 13,000. */
+/* More than any function writes. */
+enum { MOST_ROOM = 1 << 14 };
+
+/* Fresh room of so many bytes. */
 static inline uint8_t *guarded_fresh(size_t size, enum guarded_edge edge)
 {
-    static uint8_t fresh[13000];
+    static uint8_t fresh[MOST_ROOM];
     make_fresh(fresh, size);
     return guarded_copy(fresh, size, edge, PROT_READ | PROT_WRITE);
 }
 
-/* What was written stands at the start, if its bytes are known, and the rest is fresh. The first byte that differs is told. */
+/* What was written is at the start, if its bytes are known, and the rest is fresh. The first byte that differs is
+ * told. */
 static inline void expect_room(const char *reason, const void *room, size_t size, struct bytes written)
 {
     const uint8_t *bytes = room;

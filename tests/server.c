@@ -1,9 +1,9 @@
-/* The library as a process, for programs that can't link it: each request on standard input is one call, and what came of it goes to
- * standard output. Numbers have eight bytes, low byte first.
+/* The library as a process, for programs that can't link it: each request on standard input is one call, and what came
+ * of it goes to standard output. Numbers have eight bytes, low byte first.
  *
- * A request is a struct request and then the bytes of its slices; an answer is a struct answer and then the bytes of the same slices after
- * the call. A slice ends at a page that may not be touched, so that a read or write past it ends this process; in front of it are known
- * bytes. */
+ * A request is a struct request and then the bytes of its slices; an answer is a struct answer and then the bytes of
+ * the same slices after the call. A slice ends at a page that may not be touched, so that a read or write past it ends
+ * this process; in front of it are known bytes. */
 #include "fresh.h"
 #include "guarded.h"
 #include "pasturequill.h"
@@ -99,7 +99,8 @@ static struct answer called(uint64_t service, const uint64_t *numbers, const str
     case EXPAND:
         return counted(pasturequill_expand(s[0].at, s[0].size, numbers[0], s[1].at, s[1].size));
     case VALUE:
-        return valued(pasturequill_value(s[0].at, s[0].size, numbers[0], numbers[1], s[1].at, s[1].size, s[2].at, s[2].size));
+        return valued(
+            pasturequill_value(s[0].at, s[0].size, numbers[0], numbers[1], s[1].at, s[1].size, s[2].at, s[2].size));
     case TRANSLATE:
         return counted(pasturequill_translate(s[0].at, s[0].size, numbers[0], words(s[1]), word_count(s[1])));
     case JUDGE:

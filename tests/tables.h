@@ -1,6 +1,6 @@
-/* Slices for tables of cases: bytes, or 16-bit words, and how many there are. */
-#ifndef SLICES_H
-#define SLICES_H
+/* Tables of cases: slices of bytes or of 16-bit words, and rows with a refusal. */
+#ifndef TABLES_H
+#define TABLES_H
 
 #include <stddef.h>
 #include <stdint.h>
@@ -18,5 +18,11 @@ struct words {
 #define BYTES(...) {(const uint8_t[]){__VA_ARGS__}, sizeof((const uint8_t[]){__VA_ARGS__})}
 #define WORDS(...) {(const uint16_t[]){__VA_ARGS__}, sizeof((const uint16_t[]){__VA_ARGS__}) / sizeof(uint16_t)}
 #define NONE {NULL, 0}
+
+/* A row that starts with its reason and a refusal, which is named as in the header but for what all names begin with.
+ */
+#define ROW(refusal, reason, ...) {reason, PASTUREQUILL_##refusal, __VA_ARGS__}
+
+#define TWO_TO(n) (UINT64_C(1) << (n))
 
 #endif

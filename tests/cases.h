@@ -1,0 +1,68 @@
+/* Tables of cases over records: ATOM(0), TEST(0), STEP, SEQUENCE(1, 2) and so on are a record each. */
+#ifndef CASES_H
+#define CASES_H
+
+#include "formula.h"
+#include "tables.h"
+
+/* One record; Z has something in its zero byte. */
+#define R(kind, a, b) Z(kind, 0, a, b)
+#define Z(kind, zero, a, b)                                                                          \
+    {[KIND] = kind, [ZERO] = zero, [FIELD_A] = (a) & UINT8_MAX, [FIELD_A + HIGH] = (a) >> 8,         \
+     [FIELD_B] = (b) & UINT8_MAX, [FIELD_B + HIGH] = (b) >> 8}
+
+#define FALSE_ R(PASTUREQUILL_FALSE, 0, 0)
+#define TRUE_ R(PASTUREQUILL_TRUE, 0, 0)
+#define ATOM(i) R(PASTUREQUILL_ATOM, i, 0)
+#define DIAMOND(p, f) R(PASTUREQUILL_DIAMOND, p, f)
+#define BOX(p, f) R(PASTUREQUILL_BOX, p, f)
+#define STEP R(PASTUREQUILL_STEP, 0, 0)
+#define BACK R(PASTUREQUILL_BACK, 0, 0)
+#define TEST(f) R(PASTUREQUILL_TEST, f, 0)
+#define CHOICE(p, q) R(PASTUREQUILL_CHOICE, p, q)
+#define SEQUENCE(p, q) R(PASTUREQUILL_SEQUENCE, p, q)
+#define STAR(p) R(PASTUREQUILL_STAR, p, 0)
+
+/* The bytes of some records. */
+#define RECORDS(...) \
+    {(const uint8_t[][RECORD_SIZE]){__VA_ARGS__}[0], sizeof((const uint8_t[][RECORD_SIZE]){__VA_ARGS__})}
+
+static inline struct bytes bytes_of(const struct formula *f)
+{
+    return (struct bytes){f->records, size_of(f)};
+}
+
+/* Records of one field on top of each other, so many. */
+static inline size_t add_times(struct formula *f, uint8_t kind, size_t times, size_t g)
+{
+    for (size_t i = 0; i < times; i++)
+        g = add(f, kind, g, 0);
+    return g;
+}
+
+/* A formula of so many records, three or more: a step under stars, what they lead to, and a diamond. */
+static inline size_t add_stars(struct formula *f, size_t records, uint8_t end)
+{
+    size_t path = add_times(f, PASTUREQUILL_STAR, records - 3, step(f));
+    return diamond(f, path, add(f, end, 0, 0));
+}
+
+/* ---- refusals */
+struct records_case {
+    const char *reason;
+    int refusal;
+    uint64_t atoms;
+    struct bytes records;
+};
+
+#define CASE(refusal, atoms, reason, ...) ROW(refusal, reason, atoms, RECORDS(__VA_ARGS__))
+
+typedef void expect_records(const char *reason, struct bytes records, uint64_t atoms, int refusal);
+
+static inline void expect_each(const struct records_case *cases, size_t n, expect_records *expect)
+{
+    for (size_t i = 0; i < n; i++)
+        expect(cases[i].reason, cases[i].records, cases[i].atoms, cases[i].refusal);
+}
+
+#endif
