@@ -1,9 +1,10 @@
-//! The library, which is a process of its own (server.c): it is made for x86-64, and a comparison for the machine that it runs on.
+//! The library, which is a process of its own (server.c): it is made for x86-64, and a comparison for the machine that
+//! it runs on.
 //!
-//! Every slice of a call ends at memory that may not be touched and has known bytes in front, so that no write beside it goes unseen.
-#![allow(dead_code)] // No comparison needs all of it.
+//! Every slice of a call ends at memory that may not be touched and has known bytes in front, so that no write beside
+//! it goes unseen.
 
-use crate::inputs::Random;
+use super::*;
 use std::env::args;
 use std::io::{self, BufReader, BufWriter, Read, Write};
 use std::process::{Child, ChildStdin, ChildStdout, Command, Stdio};
@@ -27,7 +28,7 @@ pub struct Outcome {
     pub slices: Vec<Vec<u8>>,
 }
 
-/// A slice that is lent to a call: what it holds before, and what must have been written to its start; all else must stay.
+/// A slice that is lent to a call: what it holds before, and what must then be at its start; all else must stay.
 pub struct Lent<'a> {
     name: &'static str,
     before: Vec<u8>,
@@ -60,7 +61,7 @@ impl Library {
     /// Starts the process. Its command is the arguments of this program.
     pub fn started() -> Library {
         let words: Vec<String> = args().skip(1).collect();
-        let (program, others) = words.split_first().expect("the arguments are the command that starts the library's process");
+        let (program, others) = words.split_first().expect("the arguments are a command that starts server.c");
         let mut process = Command::new(program)
             .args(others)
             .stdin(Stdio::piped())
@@ -115,15 +116,15 @@ impl Library {
     }
 
     /// Says what is wrong with the outcome of a call, if anything is.
-    pub fn difference(&mut self, service: Service, numbers: [u64; 2], lent: &[Lent], expected: &[u64]) -> Option<String> {
+    pub fn difference(&mut self, service: Service, numbers: [u64; 2], lent: &[Lent], due: &[u64]) -> Option<String> {
         let slices: Vec<&[u8]> = lent.iter().map(|slice| &slice.before[..]).collect();
         let outcome = match self.call(service, numbers, &slices) {
             Err(what) => return Some(what),
             Ok(outcome) => outcome,
         };
-        let got = &outcome.results[..expected.len()];
-        if got != expected {
-            return Some(format!("gives {got:?}, expected {expected:?}"));
+        let got = &outcome.results[..due.len()];
+        if got != due {
+            return Some(format!("gives {got:?}, expected {due:?}"));
         }
         lent.iter().zip(&outcome.slices).find_map(|(slice, after)| slice.difference(after))
     }

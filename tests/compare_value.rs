@@ -1,26 +1,17 @@
-//! pasturequill_value against an evaluator that was written apart from it, over many random inputs, accepted and refused.
+//! pasturequill_value against an evaluator that was written apart from it, over many random inputs, accepted and
+//! refused.
 //!
-//! The evaluator follows definition 1 of source 004 and not the three-valued reading that the library is proved against: it asks what a
-//! formula's truth is in two traces, the given one and the one in which all that is assumed counts as proved, with two truth values each;
-//! theorem 1 of that paper says which of the three values this comes to. What is refused is written here anew, from document 01.
+//! The evaluator follows definition 1 of source 004 and not the three-valued reading that the library is proved
+//! against: it asks what a formula's truth is in two traces, the given one and the one in which all that is assumed
+//! counts as proved, with two truth values each; theorem 1 of that paper says which of the three values this comes to.
+//! What is refused is written here anew, from document 01.
 //!
-//! Every input is drawn from a fixed seed. Compared are the refusal, the value, every byte of the table, and the bytes around it.
+//! Every input is drawn from a fixed seed. Compared are the refusal, the value, every byte of the table, and the bytes
+//! around it.
 
-mod cells;
-mod counts;
-mod formulas;
-mod inputs;
-mod library;
+mod shared;
 
-use cells::random_cells;
-use counts::Counts;
-use formulas::*;
-use inputs::{damaged, hex, Random};
-use library::{Lent, Library, Service};
-use std::process::exit;
-
-/// Room for instants.
-const MOST: usize = 32;
+use shared::*;
 
 /// What is handed to the library; `room` is the table's length.
 struct Input {
@@ -32,7 +23,8 @@ struct Input {
 
 // ---- satisfaction in two traces (source 004, definition 1)
 
-/// Of an HT-trace ⟨H,T⟩ two things are asked: what it satisfies itself, and what the total trace ⟨T,T⟩ does. A box asks both.
+/// Of an HT-trace ⟨H,T⟩ two things are asked: what it satisfies itself, and what the total trace ⟨T,T⟩ does. A box asks
+/// both.
 #[derive(Clone, Copy, PartialEq)]
 enum Trace {
     Given,
@@ -40,10 +32,10 @@ enum Trace {
 }
 
 /// The instants at which a formula is satisfied; the pairs of instants that a path relates.
-type Instants = [bool; MOST];
-type Relation = [[bool; MOST]; MOST];
+type Instants = [bool; MOST_INSTANTS];
+type Relation = [Instants; MOST_INSTANTS];
 
-const NOWHERE: Relation = [[false; MOST]; MOST];
+const NOWHERE: Relation = [[false; MOST_INSTANTS]; MOST_INSTANTS];
 
 /// What each record says of one trace. A formula's relation and a path's instants are empty and are never looked at.
 struct Told {
@@ -51,8 +43,8 @@ struct Told {
     leads: Vec<Relation>,
 }
 
-/// Whether an atom is in the first set of a trace's pair at an instant: that is H for the given trace and T for the total one. A cell of 2
-/// is in both sets, a cell of 1 in T alone.
+/// Whether an atom is in the first set of a trace's pair at an instant: that is H for the given trace and T for the
+/// total one. A cell of 2 is in both sets, a cell of 1 in T alone.
 fn has(trace: Trace, cell: u8) -> bool {
     match trace {
         Trace::Given => cell == 2,
@@ -118,8 +110,8 @@ fn all_ends(told: &Told, path: usize, formula: usize, k: usize, instants: usize)
     (0..instants).all(|i| !told.leads[path][k][i] || told.holds[formula][i])
 }
 
-/// What every record says, of the given trace and of the total one. A child stands before its parent, so one pass is enough; the total
-/// trace comes first, because a box in the given one needs it (line 4).
+/// What every record says, of the given trace and of the total one. A child stands before its parent, so one pass is
+/// enough; the total trace comes first, because a box in the given one needs it (line 4).
 fn told(input: &Input) -> (Told, Told) {
     let instants = input.instants as usize;
     let atoms = input.formula.atoms as usize;
@@ -129,7 +121,7 @@ fn told(input: &Input) -> (Told, Told) {
         for trace in [Trace::Total, Trace::Given] {
             let here = if trace == Trace::Given { &given } else { &total };
             let (a, b) = (input.formula.a(r), input.formula.b(r));
-            let mut holds = [false; MOST];
+            let mut holds = [false; MOST_INSTANTS];
             let mut leads = NOWHERE;
             match input.formula.kind(r) {
                 FALSE => {}
@@ -145,7 +137,8 @@ fn told(input: &Input) -> (Told, Told) {
                         holds[k] = (0..instants).any(|i| here.leads[a][k][i] && here.holds[b][i]);
                     }
                 }
-                // Every end does, in this trace and also in the total one (line 4). For the total trace these are the same.
+                // Every end does, in this trace and also in the total one (line 4). For the total trace these are the
+                // same.
                 BOX => {
                     for k in 0..instants {
                         holds[k] = all_ends(here, a, b, k, instants);
@@ -183,7 +176,8 @@ fn told(input: &Input) -> (Told, Told) {
     (given, total)
 }
 
-/// Theorem 1: 2 where the given trace satisfies, 1 where only the total one does, else 0. What is proved is also assumed.
+/// Theorem 1: 2 where the given trace satisfies, 1 where only the total one does, else 0. What is proved is also
+/// assumed.
 fn three_valued(given: bool, total: bool) -> u8 {
     assert!(total || !given, "satisfied in the given trace and not in the total one");
     match (given, total) {
@@ -195,57 +189,36 @@ fn three_valued(given: bool, total: bool) -> u8 {
 
 // ---- what is refused (document 01, Records and Numbers given back)
 
-/// The refusal's number, 0 if the input is taken: 1; 8; the records from the first; the last record's sort; 7; 9; 10.
-fn refusal(input: &Input) -> u8 {
-    let formula = &input.formula;
-    if wrong_length(formula) {
-        return 1;
-    }
-    if formula.atoms > 32 || input.instants < 1 || input.instants > 32 || input.cells.len() as u64 != formula.atoms * input.instants {
-        return 8;
-    }
-    let number = records_refusal(formula);
-    if number != 0 {
-        return number;
-    }
-    if input.cells.iter().any(|&cell| cell > 2) {
-        return 9;
-    }
-    if input.room < formula.count() * input.instants as usize {
-        return 10;
-    }
-    0
-}
-
-/// The answer of pasturequill_value.
-struct Valued {
-    refusal: u8,
-    value: u8,
+/// The length; sizes; the records; cells; room.
+fn refusal(input: &Input) -> Refusal {
+    let Input { formula, instants, cells, room } = input;
+    let fitting = (1..=MOST_INSTANTS as u64).contains(instants)
+        && formula.atoms.checked_mul(*instants) == Some(cells.len() as u64);
+    formula_refusal(formula, !fitting)
+        .or(Refusal::WrongCell, || cells.iter().any(|&cell| cell > 2))
+        .or(Refusal::NoRoom, || *room < formula.count() * *instants as usize)
 }
 
 /// What must come back, and what must then be in the table's first bytes.
 struct Expected {
-    valued: Valued,
+    refusal: Refusal,
+    value: u8,
     written: Vec<u8>,
 }
 
 fn expected(input: &Input) -> Expected {
     let refusal = refusal(input);
-    if refusal != 0 {
-        return Expected { valued: Valued { refusal, value: 0 }, written: vec![] };
+    if refusal != Refusal::Accepted {
+        return Expected { refusal, value: 0, written: vec![] };
     }
     let (given, total) = told(input);
-    let mut written = vec![];
-    for r in 0..input.formula.count() {
-        for k in 0..input.instants as usize {
-            written.push(match sort(&input.formula, r) {
-                Sort::Formula => three_valued(given.holds[r][k], total.holds[r][k]),
-                Sort::Path => 0,
-            });
-        }
-    }
-    let last = input.formula.count() - 1;
-    Expected { valued: Valued { refusal, value: three_valued(given.holds[last][0], total.holds[last][0]) }, written }
+    let value = |r: usize, k: usize| match sort(&input.formula, r) {
+        Sort::Formula => three_valued(given.holds[r][k], total.holds[r][k]),
+        Sort::Path => 0,
+    };
+    let n = input.formula.count();
+    let written = (0..n).flat_map(|r| (0..input.instants as usize).map(move |k| (r, k)));
+    Expected { refusal, value: value(n - 1, 0), written: written.map(|(r, k)| value(r, k)).collect() }
 }
 
 // ---- random inputs
@@ -254,13 +227,7 @@ fn expected(input: &Input) -> Expected {
 fn accepted_input(random: &mut Random, size: usize) -> Input {
     let tame = random.percent(20);
     let formula = random_formula(random, size, tame, 0);
-    let instants = match random.below(10) {
-        0 => 1,
-        1 | 2 => 32,
-        3 => 31,
-        4 | 5 => random.between(2, 6),
-        _ => random.between(1, 32),
-    };
+    let instants = random_instants(random);
     let cells = random_cells(random, formula.atoms as usize, instants);
     let longer = if random.percent(50) { 0 } else { random.between(1, 100) };
     Input { room: size * instants + longer, formula, instants: instants as u64, cells }
@@ -268,47 +235,37 @@ fn accepted_input(random: &mut Random, size: usize) -> Input {
 
 // ---- damage
 
+/// As many cells as the sizes ask for, where that is few enough.
+fn fit_cells(input: &mut Input) {
+    if input.instants <= 40 && input.formula.atoms <= 64 {
+        input.cells.resize((input.formula.atoms * input.instants) as usize, 1);
+    }
+}
+
 /// One kind of harm, which may or may not make the input wrong: what must come of it is for `expected` to say.
 fn damage(random: &mut Random, input: &mut Input) {
     let n = input.formula.count();
-    let needed = n * input.instants.min(32) as usize;
+    let needed = n * input.instants.min(MOST_INSTANTS as u64) as usize;
     match random.below(29) {
         // sizes
         7 => {
             input.instants = if random.percent(25) { 0 } else { far(random, input.instants) };
-            if input.instants <= 40 && input.formula.atoms <= 40 {
-                input.cells.resize((input.formula.atoms * input.instants) as usize, 1);
-            }
+            fit_cells(input);
         }
         8 => {
             input.formula.atoms = far(random, input.formula.atoms);
-            if input.instants <= 40 && input.formula.atoms <= 64 {
-                input.cells.resize((input.formula.atoms * input.instants) as usize, 1);
-            }
+            fit_cells(input);
         }
-        // Products that are 0 in 64 bits, or the number of the cells.
         9 => {
-            (input.formula.atoms, input.instants) =
-                random.pick(&[(1 << 63, 2), (1 << 32, 1 << 32), (2, 1 << 63), (1 << 62, 4), (0, 1 << 63), (0, 33), (0, 0)]);
+            (input.formula.atoms, input.instants) = random.pick(&NO_CELLS);
             input.cells.clear();
         }
-        10 => {
-            input.cells.pop();
-        }
-        11 => input.cells.push(random.pick(&[0, 2, 3])),
-        12 => {
-            let row = vec![1; input.formula.atoms.min(64) as usize];
-            input.cells.extend(row);
-        }
-        // cells
-        13 | 14 if !input.cells.is_empty() => {
-            let at = random.below(input.cells.len());
-            input.cells[at] = random.pick(&[3, 4, 128, 130, 254, 255]);
-        }
+        harm @ 10..=14 => damage_cells(random, &mut input.cells, input.formula.atoms, harm - 10),
         // A cell over 2 in an atom that no record names.
-        15 | 16 if (1..=32).contains(&input.formula.atoms) => {
-            let named: Vec<usize> = (0..n).filter(|&r| input.formula.kind(r) == ATOM).map(|r| input.formula.a(r)).collect();
-            let unnamed: Vec<usize> = (0..input.cells.len()).filter(|at| !named.contains(&(at % input.formula.atoms as usize))).collect();
+        15 | 16 if (1..=MOST_ATOMS as u64).contains(&input.formula.atoms) => {
+            let named: Vec<usize> = input.formula.of_kind(ATOM).into_iter().map(|r| input.formula.a(r)).collect();
+            let is_unnamed = |at: &usize| !named.contains(&(at % input.formula.atoms as usize));
+            let unnamed: Vec<usize> = (0..input.cells.len()).filter(is_unnamed).collect();
             if !unnamed.is_empty() {
                 input.cells[random.pick(&unnamed)] = random.pick(&[3, 255]);
             }
@@ -342,118 +299,76 @@ fn random_input(random: &mut Random) -> Input {
 
 /// Calls the library on an input and says what is wrong with the outcome, if anything is.
 fn difference(library: &mut Library, random: &mut Random, input: &Input, expected: &Expected) -> Option<String> {
-    let Valued { refusal, value } = expected.valued;
     let lent = [
         Lent::to_read("records", &input.formula.records),
         Lent::to_read("cells", &input.cells),
         Lent::to_write("table", random, input.room, &expected.written),
     ];
-    library.difference(Service::Value, [input.formula.atoms, input.instants], &lent, &[refusal.into(), value.into()])
+    let answer = [expected.refusal as u64, expected.value.into()];
+    library.difference(Service::Value, [input.formula.atoms, input.instants], &lent, &answer)
 }
 
 // ---- the run
 
-/// What the inputs were like, so that a run which tries too little is seen, and fails.
-#[derive(Default)]
-struct Seen {
-    refused: [usize; 11],
-    values: [usize; 3],
-    classes: [usize; 5],
-    kinds: [usize; 11],
-    in_table: [usize; 3],
-    sizes: Vec<bool>,
-    instants: Vec<bool>,
-    atoms: Vec<bool>,
-}
+/// Formulas by how many records they have.
+const SIZES: [Case<Input>; 5] = [
+    ("1 to 9 records", |input| input.formula.count() <= 9),
+    ("10 to 31 records", |input| (10..=31).contains(&input.formula.count())),
+    ("32 to 99 records", |input| (32..=99).contains(&input.formula.count())),
+    ("100 to 254 records", |input| (100..MOST_RECORDS).contains(&input.formula.count())),
+    ("255 records", |input| input.formula.count() == MOST_RECORDS),
+];
 
-const CLASSES: [(usize, usize); 5] = [(1, 9), (10, 31), (32, 99), (100, 254), (255, 255)];
-
-impl Seen {
-    fn new() -> Seen {
-        Seen { sizes: vec![false; 256], instants: vec![false; 33], atoms: vec![false; 33], ..Seen::default() }
+fn count(seen: &mut Seen, input: &Input, expected: &Expected) {
+    seen.add(expected.refusal.name());
+    if expected.refusal != Refusal::Accepted {
+        return;
     }
-
-    fn count(&mut self, input: &Input, expected: &Expected) {
-        let Valued { refusal, value } = expected.valued;
-        if refusal != 0 {
-            self.refused[refusal as usize] += 1;
-            return;
-        }
-        let n = input.formula.count();
-        self.values[value as usize] += 1;
-        self.classes[CLASSES.iter().position(|&(low, high)| low <= n && n <= high).expect("1 to 255 records")] += 1;
-        self.sizes[n] = true;
-        self.instants[input.instants as usize] = true;
-        self.atoms[input.formula.atoms as usize] = true;
-        for r in 0..n {
-            self.kinds[input.formula.kind(r) as usize] += 1;
-            if sort(&input.formula, r) == Sort::Formula {
-                for k in 0..input.instants as usize {
-                    self.in_table[expected.written[r * input.instants as usize + k] as usize] += 1;
-                }
-            }
-        }
+    let (formula, instants) = (&input.formula, input.instants as usize);
+    seen.add_cases(&SIZES, input);
+    seen.add(format!("value {}", expected.value));
+    seen.add(format!("{} records in all", formula.count()));
+    seen.add(format!("{instants} instants"));
+    seen.add(format!("{} atoms", formula.atoms));
+    for r in 0..formula.count() {
+        seen.add(format!("kind {}", formula.kind(r)));
     }
-
-    /// What was tried too seldom: each refusal, value, kind and class of sizes is due a hundred times, each size and number once. There is
-    /// no formula of two records.
-    fn missing(&self) -> Vec<String> {
-        let mut missing = vec![];
-        let mut due = |what: &str, i: usize, enough: bool| {
-            if !enough {
-                missing.push(format!("{what} {i}"));
-            }
-        };
-        (1..=10).for_each(|i| due("refusal", i, self.refused[i] >= 100));
-        (0..3).for_each(|i| due("value", i, self.values[i] >= 100));
-        (0..3).for_each(|i| due("value in the table", i, self.in_table[i] >= 100));
-        (0..5).for_each(|i| due("class of sizes", i, self.classes[i] >= 100));
-        (0..11).for_each(|i| due("kind", i, self.kinds[i] >= 100));
-        (1..=255).for_each(|i| due("size", i, i == 2 || self.sizes[i]));
-        (1..=32).for_each(|i| due("instants", i, self.instants[i]));
-        (0..=32).for_each(|i| due("atoms", i, self.atoms[i]));
-        missing
+    let formulas = (0..formula.count()).filter(|&r| sort(formula, r) == Sort::Formula);
+    let values: Vec<u8> = formulas.flat_map(|r| expected.written[r * instants..(r + 1) * instants].to_vec()).collect();
+    for value in 0..3 {
+        let times = values.iter().filter(|&&found| found == value).count();
+        seen.add_times(format!("value {value} in a table"), times);
     }
 }
-
-const INPUTS: usize = 100_000;
 
 fn main() {
     let mut library = Library::started();
     let mut random = Random::seeded();
-    let mut seen = Seen::new();
-    let counts = Counts::of("compare", INPUTS, |i| {
-        // First every size once, whole and undamaged; then whatever comes.
+    let mut comparison = Comparison::of("compare the evaluator", 100_000, |i, seen| {
+        // First every size once, whole and undamaged; then whatever comes. There is no formula of two records.
         let input = match i {
-            1 | 3..=255 => accepted_input(&mut random, i),
+            1 | 3..=MOST_RECORDS => accepted_input(&mut random, i),
             _ => random_input(&mut random),
         };
         let expected = expected(&input);
-        seen.count(&input, &expected);
+        count(seen, &input, &expected);
         let what = difference(&mut library, &mut random, &input, &expected)?;
         let Input { formula, instants, cells, room } = input;
-        let (atoms, records, cells, written) = (formula.atoms, hex(&formula.records), hex(&cells), hex(&expected.written));
+        let (atoms, records, cells, written) =
+            (formula.atoms, hex(&formula.records), hex(&cells), hex(&expected.written));
         Some(format!(
             "{what}\n  records {records}\n  atoms {atoms}, instants {instants}, cells {cells}\n  \
              table of {room} bytes, expected to start with {written}"
         ))
     });
 
-    let numbered = |counts: &[usize], from: usize| -> String {
-        let each: Vec<String> = (from..counts.len()).map(|i| format!("{i}: {}", counts[i])).collect();
-        each.join(", ")
-    };
-    let valued: usize = seen.values.iter().sum();
-    println!(
-        "compare: {INPUTS} inputs, {} refused ({}), {valued} valued ({})",
-        INPUTS - valued,
-        numbered(&seen.refused, 1),
-        numbered(&seen.values, 0)
-    );
-    let classes: Vec<String> = CLASSES.iter().zip(seen.classes).map(|((low, high), count)| format!("{low} to {high}: {count}")).collect();
-    println!("compare: valued, by the number of records ({})", classes.join(", "));
-    println!("compare: values in the tables ({})", numbered(&seen.in_table, 0));
-    if !counts.told("compare with the evaluator", &seen.missing()) {
-        exit(1);
-    }
+    comparison.tell(100, outcomes(&[Refusal::WrongCell, Refusal::NoRoom]));
+    comparison.tell(100, (0..3).map(|value| format!("value {value}")).collect());
+    comparison.tell(100, names(&SIZES));
+    comparison.tell(100, (0..3).map(|value| format!("value {value} in a table")).collect());
+    comparison.require(100, (FALSE..=STAR).map(|kind| format!("kind {kind}")));
+    comparison.require(1, (1..=MOST_RECORDS).filter(|&n| n != 2).map(|n| format!("{n} records in all")));
+    comparison.require(1, (1..=MOST_INSTANTS).map(|instants| format!("{instants} instants")));
+    comparison.require(1, (0..=MOST_ATOMS).map(|atoms| format!("{atoms} atoms")));
+    comparison.end("compare with the evaluator");
 }
