@@ -1,19 +1,20 @@
 #!/usr/bin/env python3
 """The translation in a real solver: the elevator of source 004, section 4, in clingo.
 
-Its rule (13) is built as records and translated by our printing program; the rules are written as ASP beside elevator.lp. clingo counts
-the models, which are plans, and the counts are held to those of the paper's Table 3. The labels are in the models too: a second filling
-of them would be a model too many.
+Its rule (13) is built as records and translated by our printing program; the rules are written as ASP beside
+elevator.lp. clingo counts the models, which are plans, and the counts are held to those of the paper's Table 3. The
+labels are in the models too: a second filling of them would be a model too many.
 
-The arguments are the command that runs the printing program. Exit status: 0 all counts come out; 1 one differs, or a program fails;
-2 clingo is missing, or no command is given."""
+The arguments are the command that runs the printing program. Exit status: 0 all counts come out; 1 one differs, or a
+program fails; 2 clingo is missing, or no command is given."""
 
 import json
 import pathlib
 import shutil
-import struct
 import subprocess
 import sys
+
+from records import record
 
 HERE = pathlib.Path(__file__).resolve().parent
 THEORY = HERE / "elevator.lp"
@@ -37,41 +38,39 @@ def leave(status, *reasons):
 
 # ---- rule (13) as records. A tree is its kind and then its parts: trees, or an atom's number.
 ATOMS = ("up", "down", "serve", "wait", "ready")
-FALSE, ATOM, DIAMOND, BOX, STEP, TEST, CHOICE, SEQUENCE, STAR = 0, 2, 3, 4, 5, 7, 8, 9, 10
 
 
 def atom(name):
-    return (ATOM, ATOMS.index(name))
+    return ("atom", ATOMS.index(name))
 
 
 def test(formula):
-    return (TEST, formula)
+    return ("test", formula)
 
 
 def do(action):
     """An action as a path: it is tested, and time steps on."""
-    return (SEQUENCE, test(atom(action)), (STEP,))
+    return ("sequence", test(atom(action)), ("step",))
 
 
 def negation(formula):
-    return (BOX, test(formula), (FALSE,))
+    return ("box", test(formula), ("false",))
 
 
 def rule_13():
     """((up* + down*) ; ready? ; serve)* ; wait* leads from the first instant to the final one."""
-    ride = (CHOICE, (STAR, do("up")), (STAR, do("down")))
-    visit = (SEQUENCE, ride, (SEQUENCE, test(atom("ready")), do("serve")))
-    whole = (SEQUENCE, (STAR, visit), (STAR, do("wait")))
-    final = (BOX, (STEP,), (FALSE,))
-    return (DIAMOND, whole, final)
+    ride = ("choice", ("star", do("up")), ("star", do("down")))
+    visit = ("sequence", ride, ("sequence", test(atom("ready")), do("serve")))
+    whole = ("sequence", ("star", visit), ("star", do("wait")))
+    final = ("box", ("step",), ("false",))
+    return ("diamond", whole, final)
 
 
 def add_records(tree, records):
     """Adds a tree's records, those of its parts first, and gives the number of its own."""
     kind, *parts = tree
     fields = [add_records(part, records) if isinstance(part, tuple) else part for part in parts]
-    a, b = fields + [0] * (2 - len(fields))
-    records.append(struct.pack("<BBHH", kind, 0, a, b))
+    records.append(record(kind, *fields))
     return len(records) - 1
 
 
@@ -104,7 +103,7 @@ def literal(word):
 
 
 def as_asp(rule):
-    """A rule as ASP. Its place is a condition on T; body words that are true and head words that are false are left out."""
+    """A rule as ASP. Its place is a condition on T; what is true in the body or false in the head is left out."""
     place, *words = rule
     body = [literal(word) for word in words[:2] if word != 1]
     head = [literal(word) for word in words[2:] if word != 0]
@@ -123,16 +122,17 @@ def asked(rules):
 
 
 # ---- counting
-# An asserted formula is a reason for the atoms that it needs. The actions are free to be chosen anyway; ready is made so too, and held to
-# what it means by a constraint. Else the elevator would be ready wherever the formula wants it.
+# An asserted formula is a reason for the atoms that it needs. The actions are free to be chosen anyway; ready is made
+# so too, and held to what it means by a constraint. Else the elevator would be ready wherever the formula wants it.
 READY_BY_CONSTRAINT = ["{ready(T)} :- instant(T).", ":- ready(T), at(X, T), not called(X, T)."]
 
 
 def programs():
     """What stands beside the action theory, with a heading: nothing, and then the rule in three ways.
 
-    Asking is what (13) does, and shows the rules that lead up to the whole formula's label. Asserting shows those that lead down from it.
-    Twice negated, the formula is a constraint that may be asserted; it brings tests under a box and negations."""
+    Asking is what (13) does, and shows the rules that lead up to the whole formula's label. Asserting shows those
+    that lead down from it. Twice negated, the formula is a constraint that may be asserted; it brings tests under a
+    box and negations."""
     rule = rule_13()
     rules = translated(rule)
     return (
