@@ -1,4 +1,4 @@
-/* The expander: each shorthand of document 01's list as a case here. */
+/* The expander: each shorthand of the specification's list as a case here. */
 #include "expander.h"
 
 #include "checker.h"

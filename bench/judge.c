@@ -1,4 +1,4 @@
-/* The plain judge, each sentence of document 01 as a line or a loop; then its refusals. */
+/* The plain judge, each sentence of the specification as a line or a loop; then its refusals. */
 #include "judge.h"
 
 #include "values.h"

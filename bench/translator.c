@@ -1,4 +1,4 @@
-/* The plain translator, each line of document 01's list of rules as a line here; then its refusals. */
+/* The plain translator, each line of the specification's list of rules as a line here; then its refusals. */
 #include "translator.h"
 
 #include "checker.h"

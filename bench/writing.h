@@ -1,4 +1,4 @@
-/* Rules by what they say, as document 01's translation lists them. */
+/* Rules by what they say, as the specification's translation lists them. */
 #ifndef WRITING_H
 #define WRITING_H
 

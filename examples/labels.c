@@ -72,7 +72,7 @@ static const struct example {
     size_t (*label[LABELS])(struct formula *f);
     const char *written[LABELS];
     rule paper[PAPER_RULES];
-    size_t ours;                   /* how many rules our translation has, by document 01 */
+    size_t ours;                   /* how many rules our translation has, by the specification */
     uint8_t columns[MOST_COLUMNS]; /* our columns, the atoms and then a label for each record: whose values they have */
     size_t most_searched;          /* all fillings are tried up to so many instants */
     struct claim shown[MOST_SHOWN];

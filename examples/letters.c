@@ -1,4 +1,4 @@
-/* Document 01's examples by letter that are not among those computed by proofs.
+/* The specification's examples by letter that are not among those computed by proofs.
  *
  * N: at the only instant a box over a step asks for nothing, and a diamond is worth 0. O: what is just taken and just
  * not, by the numbers that the services give back. */

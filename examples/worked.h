@@ -131,7 +131,7 @@ struct rules {
     uint16_t words[PASTUREQUILL_MOST_RULE_WORDS];
 };
 
-/* A formula's rules; prints how many there are, which is due by the sum in document 01. */
+/* A formula's rules; prints how many there are, which is due by the sum in the specification. */
 static inline struct rules show_rules(const struct formula *f, size_t atoms, size_t due)
 {
     struct rules r;

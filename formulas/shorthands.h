@@ -1,4 +1,4 @@
-/* The shorthands, in the order of document 01. */
+/* The shorthands, in the order of the specification. */
 #ifndef SHORTHANDS_H
 #define SHORTHANDS_H
 

@@ -15,7 +15,7 @@ static void expect(const char *reason, struct bytes records, uint64_t atoms, int
     }
 }
 
-/* Each kind, and the examples of document 01. */
+/* Each kind, and the examples of the specification. */
 static const struct records_case taken[] = {
     CASE(ACCEPTED, 0, "false", FALSE_),
     CASE(ACCEPTED, 0, "true", TRUE_),

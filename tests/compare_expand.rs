@@ -1,7 +1,7 @@
 //! pasturequill_expand against an expander that was written apart from it, over many random inputs, accepted and
 //! refused.
 //!
-//! The expander here follows document 01 line by line: it makes the core tree that a formula stands for, and then
+//! The expander here follows the specification line by line: it makes the core tree that a formula stands for, and then
 //! writes that tree in postorder. Compared are the refusal, the count, every byte, and the bytes around. What was
 //! written must pass pasturequill_check, and expand to itself. Every input is drawn from a fixed seed.
 
@@ -10,7 +10,7 @@ mod shared;
 use shared::counted::*;
 use shared::*;
 
-// ---- the expansion (document 01, Records)
+// ---- the expansion (Specification, Records)
 
 /// A formula or path of core kinds alone.
 struct Core {
@@ -86,7 +86,7 @@ fn expansion(formula: &Formula) -> Vec<Record> {
     records
 }
 
-// ---- what is refused (document 01, Numbers given back)
+// ---- what is refused (Specification, Refusals)
 
 /// An input, what must come back, and what must be written. `out` is how many records come out of a formula, taken or
 /// not.

@@ -1,6 +1,6 @@
 //! pasturequill_judge against a judge that was written apart from it, over many random inputs, accepted and refused.
 //!
-//! The judge here follows document 01 sentence by sentence: what a literal is worth, where a rule is looked at, when it
+//! The judge here follows the specification sentence by sentence: what a literal is worth, where a rule is looked at, when it
 //! holds, which rule is the first that fails, and what is refused. Every input is drawn from a fixed seed. Compared are
 //! all four numbers of the answer, and that nothing in or around the rules and cells was written to.
 
@@ -26,7 +26,7 @@ impl Input {
     }
 }
 
-// ---- rules over a filled trace (document 01, Translation and Judging rules)
+// ---- rules over a filled trace (Specification, Translation and Judging)
 
 /// The first instant at which a rule fails, if it does at all.
 fn failing(width: usize, instants: usize, cells: &[u8], rule: &[u16]) -> Option<usize> {
@@ -40,7 +40,7 @@ fn first_failure(input: &Input) -> Option<(usize, usize)> {
     })
 }
 
-// ---- what is refused (document 01, Numbers given back)
+// ---- what is refused (Specification, Refusals)
 
 /// Why an input is refused, in the order of the table's lines.
 #[derive(Clone, Copy, PartialEq, Debug)]

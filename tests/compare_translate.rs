@@ -1,7 +1,7 @@
 //! pasturequill_translate against a translator that was written apart from it, over many random inputs, accepted and
 //! refused.
 //!
-//! The translator here follows document 01 sentence by sentence: it climbs from a path to find what it goes on with,
+//! The translator here follows the specification sentence by sentence: it climbs from a path to find what it goes on with,
 //! and goes down a star's body to see whether it may stand still or turns. Every input is drawn from a fixed seed.
 //! Compared are the refusal, the count, every word, and the words around.
 
@@ -10,7 +10,7 @@ mod shared;
 use shared::counted::*;
 use shared::*;
 
-// ---- the translation (document 01, Translation)
+// ---- the translation (Specification, Translation)
 
 /// Words of a rule: those that are not used come last, true in the body and false in the head.
 fn rule(place: u16, body: &[u16], head: &[u16]) -> [u16; RULE_SIZE] {
@@ -79,7 +79,7 @@ fn translation(formula: &Formula) -> Vec<u16> {
     (0..n).flat_map(|r| rules_of(&tree, r)).chain([whole]).flatten().collect()
 }
 
-// ---- what is refused (document 01, Translation and Numbers given back)
+// ---- what is refused (Specification, Translation and Refusals)
 
 fn may_stand_still(formula: &Formula, path: usize) -> bool {
     match formula.kind(path) {

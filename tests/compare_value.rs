@@ -4,7 +4,7 @@
 //! The evaluator follows definition 1 of source 004 and not the three-valued reading that the library is proved
 //! against: it asks what a formula's truth is in two traces, the given one and the one in which all that is assumed
 //! counts as proved, with two truth values each; theorem 1 of that paper says which of the three values this comes to.
-//! What is refused is written here anew, from document 01.
+//! What is refused is written here anew, from the specification.
 //!
 //! Every input is drawn from a fixed seed. Compared are the refusal, the value, every byte of the table, and the bytes
 //! around it.
@@ -187,7 +187,7 @@ fn three_valued(given: bool, total: bool) -> u8 {
     }
 }
 
-// ---- what is refused (document 01, Records and Numbers given back)
+// ---- what is refused (Specification, Records and Refusals)
 
 /// The length; sizes; the records; cells; room.
 fn refusal(input: &Input) -> Refusal {

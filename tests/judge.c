@@ -160,7 +160,7 @@ static const struct judged judged[] = {
      WORDS(ARROW(EVERY, P, P), ARROW(FIRST, YES, P), ARROW(EVERY, YES, P)), BYTES(2, 1)},
     {"the same rule twice", FAILS(0, 1), 1, 2, WORDS(ARROW(EVERY, YES, P), ARROW(EVERY, YES, P)), BYTES(2, 1)},
 
-    /* the translation that document 01 prints */
+    /* the translation that the specification prints */
     {"p next, as it is", ALL_HOLD, 35, 2, NEXT, NEXT_ROWS(0, 2, 0, 2, 2, 0, 2, 0)},
     {"p next, a step past the end", FAILS(2, 1), 35, 2, NEXT, NEXT_ROWS(0, 2, 0, 2, 2, 2, 2, 2)},
     {"p next, a label too small", FAILS(6, 0), 35, 2, NEXT, NEXT_ROWS(0, 2, 0, 1, 2, 0, 2, 0)},

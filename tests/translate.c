@@ -83,7 +83,7 @@ struct translated {
 
 /* p and q are atoms 0 and 1. */
 static const struct translated translated[] = {
-    /* as document 01 prints it */
+    /* as the specification prints it */
     {"p next, over 32 atoms", 32, RECORDS(STEP, ATOM(0), DIAMOND(0, 1)),
      WORDS(2, 16418, 1, 35, 0, 0,
            2, 35, 1, 16418, 0, 0,

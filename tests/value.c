@@ -92,7 +92,7 @@ static const uint8_t until[][RECORD_SIZE] = {ATOM(0), TEST(0), STEP, SEQUENCE(1,
 
 /* p, q and r are atoms 0, 1 and 2. Cells are rows: the atoms at instant 0, then those at instant 1. */
 static const struct valued valued[] = {
-    /* the examples of document 01 by letter */
+    /* the examples of the specification by letter */
     {"A: p until q, p only assumed on the way", 2, 3, UNTIL, BYTES(2, 0, 1, 0, 0, 2), BYTES(1, 1, 2)},
     {"A: the whole table, in which paths have zeros", 2, 3, UNTIL,
      BYTES(2, 0, 1, 0, 0, 2), BYTES(2, 1, 0, 0, 0, 0, 0, 0, 0, 0, 0, 0, 0, 0, 0, 0, 0, 2, 1, 1, 2)},

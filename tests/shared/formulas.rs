@@ -1,5 +1,5 @@
 //! Formulas as records, for the comparisons of services over them: the table of kinds and what is refused by it
-//! (document 01, Records and Numbers given back).
+//! (Specification, Records and Refusals).
 
 use super::*;
 

@@ -1,4 +1,4 @@
-//! The numbers of document 01 that have names, as in the header.
+//! The numbers of the specification that have names, as in the header.
 
 macro_rules! numbers {
     ($type:ty: $($name:ident = $value:expr),* $(,)?) => { $(pub const $name: $type = $value;)* };

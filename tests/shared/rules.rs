@@ -1,4 +1,4 @@
-//! Rules as words and what they say over a filled trace (document 01, Translation and Judging rules), for the
+//! Rules as words and what they say over a filled trace (Specification, Translation and Judging), for the
 //! comparisons of the services that write and judge them.
 
 use super::*;
