@@ -96,7 +96,7 @@ static inline void cap_rows(size_t instants, square *p, row tested)
     cap_mask(p->full, tested.full);
 }
 
-/* A test behind a path: nothing leads to an instant without the bit. */
+/* A test after a path: nothing leads to an instant without the bit. */
 static inline void cap_columns(size_t instants, square *p, row tested)
 {
     (void)instants;
@@ -120,7 +120,7 @@ static inline void lead_move(size_t instants, square *p, uint8_t move)
     lead_mask(instants, p->full, move);
 }
 
-/* A move behind a path: each row moves on by one place, or back. */
+/* A move after a path: each row moves on by one place, or back. */
 static inline void follow_move(size_t instants, square *p, uint8_t move)
 {
     uint32_t all = all_instants(instants);

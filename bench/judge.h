@@ -12,7 +12,7 @@ pasturequill_judged judge_plain(const uint16_t *rules, size_t n, size_t width, s
 typedef pasturequill_judged judge(const uint16_t *rules, size_t rules_size, uint64_t width, uint64_t instants,
                                   const uint8_t *cells, size_t cells_size);
 
-/* The plain one behind all refusals. */
+/* The plain one after all refusals. */
 judge judge_checked;
 
 /* All instants of a rule at once, by masks: the fastest that we know. */

@@ -32,7 +32,7 @@ static inline void put_ends(size_t instants, row values, uint8_t *ends)
 }
 
 /* ---- one path after the other */
-/* Raises a row to what another row gives behind a way of value u. */
+/* Raises a row to what another row gives after a way of value u. */
 static inline void raise_row(uint8_t *restrict to, const uint8_t *restrict other, uint8_t u)
 {
     if (u != 0)
@@ -61,7 +61,7 @@ static inline void cap_rows(size_t instants, square *p, row tested)
             p->at[k][j] = p->at[k][j] < tested[k] ? p->at[k][j] : tested[k];
 }
 
-/* A test behind a path: to each instant no more than the tested value there. */
+/* A test after a path: to each instant no more than the tested value there. */
 static inline void cap_columns(size_t instants, square *p, row tested)
 {
     uint8_t ends[MOST];
@@ -79,7 +79,7 @@ static inline void lead_move(size_t instants, square *p, uint8_t move)
     memset(p->at[move == PASTUREQUILL_STEP ? instants - 1 : 0], 0, MOST);
 }
 
-/* A move behind a path: each row moves on by one place, or back. */
+/* A move after a path: each row moves on by one place, or back. */
 static inline void follow_move(size_t instants, square *p, uint8_t move)
 {
     for (size_t k = 0; k < instants; k++) {

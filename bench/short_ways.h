@@ -4,8 +4,8 @@
  *   square, row               a path's values, a formula's values
  *   value_path, value_test    the square of a path, the values of the formula that a test asks for
  *   follow, repeat            one path after the other; a star, in place
- *   cap_rows, cap_columns     a test before a path and behind it, in place
- *   lead_move, follow_move    a move before a path and behind it, in place
+ *   cap_rows, cap_columns     a test before a path and after it, in place
+ *   lead_move, follow_move    a move before a path and after it, in place
  *   run                       the star of a path that leads from each instant to the one beside alone, in place */
 #ifndef SHORT_WAYS_H
 #define SHORT_WAYS_H
@@ -14,7 +14,7 @@
 
 static inline int is_move(uint8_t kind) { return kind == PASTUREQUILL_STEP || kind == PASTUREQUILL_BACK; }
 
-/* The kind of a path's one move, if tests before it or behind it are all else that the path has; else another kind. */
+/* The kind of a path's one move, if tests before it or after it are all else that the path has; else another kind. */
 static inline uint8_t one_way(const struct task *t, size_t p)
 {
     const uint8_t *path = record_of(t, p);

@@ -41,7 +41,7 @@ static void steps_in_a_row(struct formula *f)
     diamond(f, path, yes(f));
 }
 
-/* Tests and steps in a row under one star, and eventually an atom behind it. */
+/* Tests and steps in a row under one star, and eventually an atom after it. */
 static void long_until(struct formula *f)
 {
     size_t path = go(f, 0);

@@ -198,7 +198,7 @@ impl Drawn<'_> {
         found
     }
 
-    /// So many rules: any ones, all holding, or all holding up to one that fails, with any ones behind it.
+    /// So many rules: any ones, all holding, or all holding up to one that fails, with any ones after it.
     fn rules(&mut self, n: usize) -> Vec<u16> {
         let hold = match self.random.below(10) {
             0 => 0,
@@ -446,7 +446,7 @@ const JUDGED: [Case<Tried>; 20] = [
     ("no at a later rule, a later instant", |t| t.no(|i, k| i > 0 && k > 0)),
     ("no at the last of several rules", |t| t.no(|i, _| i > 0 && i + 1 == t.input.count())),
     ("no at the last of several instants", |t| t.no(|_, k| k > 0 && k as u64 + 1 == t.input.instants)),
-    ("no behind 100 rules or more", |t| t.no(|i, _| i >= 100)),
+    ("no after 100 rules or more", |t| t.no(|i, _| i >= 100)),
     ("no by a rule for every instant", |t| t.no_by(AT_EVERY)),
     ("no by one for the first", |t| t.no_by(AT_FIRST)),
     ("no by one for the later ones", |t| t.no_by(AT_LATER)),

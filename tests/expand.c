@@ -173,7 +173,7 @@ static const struct expanded expanded[] = {
     /* shorthands inside core records and core records inside shorthands */
     {"a shorthand in a test", RECORDS(ATOM(0), NOT(0), TEST(1), ATOM(1), DIAMOND(2, 3)),
      RECORDS(ATOM(0), TEST(0), FALSE_, BOX(1, 2), TEST(3), ATOM(1), DIAMOND(4, 5))},
-    {"a shorthand behind a path", RECORDS(STEP, ATOM(0), ONCE(1), BOX(0, 2)),
+    {"a shorthand after a path", RECORDS(STEP, ATOM(0), ONCE(1), BOX(0, 2)),
      RECORDS(STEP, BACK, STAR(1), ATOM(0), DIAMOND(2, 3), BOX(0, 4))},
     {"a shorthand in a star in a choice", RECORDS(FINAL, TEST(0), STAR(1), BACK, CHOICE(2, 3), TRUE_, DIAMOND(4, 5)),
      RECORDS(STEP, FALSE_, BOX(0, 1), TEST(2), STAR(3), BACK, CHOICE(4, 5), TRUE_, DIAMOND(6, 7))},

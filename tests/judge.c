@@ -118,7 +118,7 @@ static const struct judged judged[] = {
     {"the greatest of a head, in its third word", ALL_HOLD, 3, 1, WORDS(EVERY, YES, YES, P, Q, R), BYTES(1, 0, 2)},
     {"the greatest of a head is too little", FAILS(0, 0), 3, 1, WORDS(EVERY, YES, YES, P, Q, R), BYTES(1, 1, 0)},
     {"true in a head's last word", ALL_HOLD, 0, 1, WORDS(EVERY, YES, YES, NO, NO, YES), NONE},
-    {"a column behind two false words of a head", FAILS(0, 1), 1, 2, WORDS(EVERY, YES, YES, NO, NO, P), BYTES(2, 1)},
+    {"a column after two false words of a head", FAILS(0, 1), 1, 2, WORDS(EVERY, YES, YES, NO, NO, P), BYTES(2, 1)},
 
     /* places */
     {"the first instant alone", FAILS(0, 0), 1, 3, WORDS(ARROW(FIRST, YES, P)), BYTES(0, 2, 2)},
@@ -130,7 +130,7 @@ static const struct judged judged[] = {
     {"one instant: all but the first are none", ALL_HOLD, 0, 1, WORDS(ARROW(LATER, YES, NO)), NONE},
     {"one instant: it is the first", FAILS(0, 0), 0, 1, WORDS(ARROW(FIRST, YES, NO)), NONE},
     {"one instant: it is the last", FAILS(0, 0), 0, 1, WORDS(ARROW(LAST, YES, NO)), NONE},
-    {"one instant: the rule behind one without instants", FAILS(1, 0), 0, 1,
+    {"one instant: the rule after one without instants", FAILS(1, 0), 0, 1,
      WORDS(ARROW(LATER, YES, NO), ARROW(LAST, YES, NO)), NONE},
 
     /* the previous instant */
@@ -226,8 +226,8 @@ static const struct refused refusals[] = {
     ROW(WRONG_RULES, "symbol 258, whose low byte is a column's", 2, 1, WORDS(ARROW(EVERY, 258, NO)), BYTES(0, 0)),
     ROW(WRONG_RULES, "word 65,535 where previous may be", 2, 1, WORDS(ARROW(LATER, UINT16_MAX, NO)), BYTES(0, 0)),
     ROW(WRONG_RULES, "a symbol in a rule that has no instant", 0, 1, WORDS(ARROW(LATER, P, NO)), NONE),
-    ROW(WRONG_RULES, "a symbol behind a false body", 0, 1, WORDS(EVERY, NO, NO, P, NO, NO), NONE),
-    ROW(WRONG_RULES, "a symbol behind a true head", 0, 1, WORDS(EVERY, YES, YES, YES, NO, P), NONE),
+    ROW(WRONG_RULES, "a symbol after a false body", 0, 1, WORDS(EVERY, NO, NO, P, NO, NO), NONE),
+    ROW(WRONG_RULES, "a symbol after a true head", 0, 1, WORDS(EVERY, YES, YES, YES, NO, P), NONE),
 
     /* previous */
     ROW(WRONG_RULES, "previous at every instant", 1, 2, WORDS(ARROW(EVERY, PREVIOUS + P, NO)), BYTES(0, 0)),
@@ -241,7 +241,7 @@ static const struct refused refusals[] = {
     ROW(WRONG_CELL, "a cell of 255", 1, 2, HOLDING, BYTES(0, 255)),
     ROW(WRONG_CELL, "a cell of 3 that no rule names", 2, 2, WORDS(ARROW(EVERY, P, P)), BYTES(0, 0, 0, 3)),
     ROW(WRONG_CELL, "a cell of 3 where there are no rules", 1, 1, NONE, BYTES(3)),
-    ROW(WRONG_CELL, "a cell of 3 behind the failure", 1, 2, FAILING, BYTES(0, 3)),
+    ROW(WRONG_CELL, "a cell of 3 after the failure", 1, 2, FAILING, BYTES(0, 3)),
 
     /* two faults */
     ROW(WRONG_SIZE, "no instants before a word too few", 0, 0, WORDS(0), NONE),

@@ -198,7 +198,7 @@ static const struct translated translated[] = {
     {"a box in a test under a diamond", 2, RECORDS(STEP, ATOM(0), BOX(0, 1), TEST(2), ATOM(1), DIAMOND(3, 4)),
      WORDS(SAME(LATER, PREVIOUS + X(0), X(1)), ARROW(LAST, YES, X(0)), SAME(EVERY, X(1), P), SAME(EVERY, X(2), X(0)),
            SMALLER(X(3), X(2), X(4)), SAME(EVERY, X(4), Q), SAME(EVERY, X(5), X(3)), WHOLE(X(5)))},
-    {"a diamond behind a box", 2, RECORDS(STEP, STEP, ATOM(0), DIAMOND(1, 2), BOX(0, 3)),
+    {"a diamond after a box", 2, RECORDS(STEP, STEP, ATOM(0), DIAMOND(1, 2), BOX(0, 3)),
      WORDS(SAME(LATER, PREVIOUS + X(0), X(3)), ARROW(LAST, YES, X(0)), SAME(LATER, PREVIOUS + X(1), X(2)),
            ARROW(LAST, X(1), NO), SAME(EVERY, X(2), P), SAME(EVERY, X(3), X(1)), SAME(EVERY, X(4), X(0)), WHOLE(X(4)))},
 
@@ -265,7 +265,7 @@ static const struct starred starred[] = {
     TAKEN(13, "step and back without a star", STEP, BACK, SEQUENCE(0, 1), TRUE_, DIAMOND(2, 3)),
     TAKEN(19, "step in one star and back in another", STEP, STAR(0), BACK, STAR(2), SEQUENCE(1, 3), TRUE_,
           DIAMOND(4, 5)),
-    TAKEN(16, "step in the star and back behind it", STEP, STAR(0), BACK, SEQUENCE(1, 2), TRUE_, DIAMOND(3, 4)),
+    TAKEN(16, "step in the star and back after it", STEP, STAR(0), BACK, SEQUENCE(1, 2), TRUE_, DIAMOND(3, 4)),
 
     /* tests' formulas do not count for the star around */
     TAKEN(23, "back in a test's formula", BACK, ATOM(0), DIAMOND(0, 1), TEST(2), STEP, SEQUENCE(3, 4), STAR(5), ATOM(1),
@@ -280,7 +280,7 @@ static const struct starred starred[] = {
             ATOM(0), DIAMOND(3, 4), TEST(5), ATOM(1), DIAMOND(6, 7)),
     REFUSED(STAR_STANDS, "a star in a test's formula stands still", ATOM(0), TEST(0), STAR(1), ATOM(0), DIAMOND(2, 3),
             TEST(4), STEP, SEQUENCE(5, 6), STAR(7), ATOM(1), DIAMOND(8, 9)),
-    REFUSED(STAR_TURNS, "a star in the formula behind turns", STEP, STAR(0), STEP, BACK, CHOICE(2, 3), STAR(4), TRUE_,
+    REFUSED(STAR_TURNS, "a star in the formula after turns", STEP, STAR(0), STEP, BACK, CHOICE(2, 3), STAR(4), TRUE_,
             DIAMOND(5, 6), BOX(1, 7)),
     REFUSED(STAR_TURNS, "a star in a test's formula turns and the star around stands still, which is later", STEP, BACK,
             CHOICE(0, 1), STAR(2), ATOM(0), DIAMOND(3, 4), TEST(5), STAR(6), ATOM(1), DIAMOND(7, 8)),
@@ -384,14 +384,14 @@ static void tests_in_a_row(void)
         tests[i] = test(&f, atom(&f, i % ATOMS));
         paths[i] = i == 0 ? tests[0] : sequence(&f, paths[i - 1], tests[i]);
     }
-    size_t on = step(&f), behind = yes(&f), end = diamond(&f, on, behind), whole = box(&f, paths[TESTS - 1], end);
+    size_t on = step(&f), goal = yes(&f), end = diamond(&f, on, goal), whole = box(&f, paths[TESTS - 1], end);
     for (size_t i = 0; i < TESTS; i++) {
         size_t tested = tests[i] - 1, next = i == TESTS - 1 ? end : tests[i + 1];
         WANT(SAME(EVERY, Y(tested), A(i % ATOMS)), IMPLICATION(Y(tests[i]), Y(tested), Y(next)));
         if (i != 0)
             WANT(SAME(EVERY, Y(paths[i]), Y(paths[i - 1])));
     }
-    WANT(SAME(LATER, PREVIOUS + Y(on), Y(behind)), ARROW(LAST, Y(on), NO), SAME(EVERY, Y(behind), YES),
+    WANT(SAME(LATER, PREVIOUS + Y(on), Y(goal)), ARROW(LAST, Y(on), NO), SAME(EVERY, Y(goal), YES),
          SAME(EVERY, Y(end), Y(on)), SAME(EVERY, Y(whole), Y(paths[TESTS - 1])), WHOLE(Y(whole)));
     expect_longest("255 records, 84 tests in a row: 680 rules", &f, 680);
 }

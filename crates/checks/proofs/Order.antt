@@ -21,17 +21,17 @@ sooner x y = cond (eqb x 0) y (cond (eqb y 0) x (min x y))
 pub lesser : {x y z : ℕ} → z ≡ sooner x y → (x ≡ 0 → ⊥) → (y ≡ 0 → ⊥) → z ≡ min x y
 lesser e p q = e ∙ rw (ne-eqb _ 0 p, ne-eqb _ 0 q)
 
--- None, or one that comes behind n.
-abbrev Behind : ℕ → ℕ → Type 0
-Behind n x = (x ≡ 0) ⊎ (n < x)
+-- None, or one that comes after n.
+abbrev Past : ℕ → ℕ → Type 0
+Past n x = (x ≡ 0) ⊎ (n < x)
 
-behind : {n m x : ℕ} (p : Bool) → n < m → Behind m x → Behind n (cond p m x)
-behind true h b = inr h
-behind false h (inl e) = inl e
-behind false h (inr l) = inr (omega arith)
+past : {n m x : ℕ} (p : Bool) → n < m → Past m x → Past n (cond p m x)
+past true h b = inr h
+past false h (inl e) = inl e
+past false h (inr l) = inr (omega arith)
 
--- A condition n on both fields, before those that come behind it.
-both : (n : ℕ) {x y : ℕ} (p q : Bool) → 0 < n → Behind n x → Behind n y
+-- A condition n on both fields, before those that come after it.
+both : (n : ℕ) {x y : ℕ} (p q : Bool) → 0 < n → Past n x → Past n y
     → cond p n (cond q n (sooner x y)) ≡ sooner (cond p n x) (cond q n y)
 both n true true h a b = rw (ne-eqb n 0 (λ e. omega arith)) (omega arith)
 both n true false h a (inl e) = rw (e, ne-eqb n 0 (λ z. omega arith))
@@ -44,9 +44,9 @@ woven : (a3 b3 a4 b4 a5 b5 a6 b6 : Bool)
     → cond a3 3 (cond b3 3 (cond a4 4 (cond b4 4 (cond a5 5 (cond b5 5 (cond a6 6 (cond b6 6 0)))))))
     ≡ sooner (cond a3 3 (cond a4 4 (cond a5 5 (cond a6 6 0)))) (cond b3 3 (cond b4 4 (cond b5 5 (cond b6 6 0))))
 woven a3 b3 a4 b4 a5 b5 a6 b6 =
-    let to6 : (p : Bool) → Behind 5 (cond p 6 0) = λ p. behind p (omega arith) (inl refl) in
-    let to5 : (p q : Bool) → Behind 4 (cond p 5 (cond q 6 0)) = λ p q. behind p (omega arith) (to6 q) in
-    let to4 : (p q t : Bool) → Behind 3 (cond p 4 (cond q 5 (cond t 6 0))) = λ p q t. behind p (omega arith) (to5 q t) in
+    let to6 : (p : Bool) → Past 5 (cond p 6 0) = λ p. past p (omega arith) (inl refl) in
+    let to5 : (p q : Bool) → Past 4 (cond p 5 (cond q 6 0)) = λ p q. past p (omega arith) (to6 q) in
+    let to4 : (p q t : Bool) → Past 3 (cond p 4 (cond q 5 (cond t 6 0))) = λ p q t. past p (omega arith) (to5 q t) in
     rw (
       both 6 a6 b6 (omega arith) (inl refl) (inl refl),
       both 5 a5 b5 (omega arith) (to6 a6) (to6 b6),

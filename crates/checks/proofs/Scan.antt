@@ -1,5 +1,5 @@
 -- The grounds of records as a scan meets them. Every number is above 0, so a result of 0 says that no ground applies.
--- Behind clear records comes the last record's sort, and behind that the places: what is found first is the number of
+-- After clear records comes the last record's sort, and after that the places: what is found first is the number of
 -- the whole list.
 use Prim.Native.Nat.{ℕ, pred, _-_}
 use mathlib.Core.Path.{_≡_, refl, sym, _∙_}
@@ -26,16 +26,16 @@ module _ (full : Bool) (s : List ℕ) (A : ℕ) where
   unfolding treeGrounds
   tree-record e q = e ∙ sym (found-stop _ _ (λ z. q (e ∙ z)))
 
-  -- Behind clear records, where t tells the last record's sort.
-  pub record Behind (t : ℕ) : Type 0 where
+  -- After clear records, where t tells the last record's sort.
+  pub record Past (t : ℕ) : Type 0 where
     pub last : (t ≡ 2 → ⊥) → 6 ≡ firstOf (treeGrounds full s A)
     pub places : t ≡ 2 → firstOf (each (pred (count s)) (λ r. ground7 s r ∷ [])) ≡ firstOf (treeGrounds full s A)
 
-  pub tree-behind : {n kind t : ℕ} → firstOf (each (count s) (recordGrounds full s A)) ≡ 0
+  pub tree-after : {n kind t : ℕ} → firstOf (each (count s) (recordGrounds full s A)) ≡ 0
       → n ≡ count s → kind ≡ kindByte s (n - 1) → t ≡ sortCode (sortOf (kindOf kind))
-      → Behind t
+      → Past t
   unfolding treeGrounds firstOf ground6-last
-  tree-behind {n} {kind} {t} none size at-last sort =
+  tree-after {n} {kind} {t} none size at-last sort =
       let records = each (count s) (recordGrounds full s A) in
       let clear = none-clear records (numbered-each _ (count s) (record-numbered full s A)) none in
       let told : t ≡ sortCode (sortOf (kindAt s (pred (count s)))) = sort ∙ rw (at-last, size, sub-one) in

@@ -1,4 +1,4 @@
--- What the expander answers. Its grounds are those that its first refusal looks at, and behind them 14 and 10, which look at the size of
+-- What the expander answers. Its grounds are those that its first refusal looks at, and after them 14 and 10, which look at the size of
 -- the whole tree: so a refusal other than 0 is the answer, and at 0 the records are a tree and its size decides.
 use Prim.Native.Nat.{ℕ, pred, _*_, _<_, _≤_}
 use mathlib.Core.Path.{_≡_, sym, _∙_}

@@ -58,12 +58,12 @@ none-left (d ∷ ds) e = absurd (omega (arith, positive ds))
 pub rest-none : {K : Kind} {rest : ℕ} (g : Rest K rest) → rest ≡ 1 → g .left ≡ []
 rest-none g e = none-left (g .left) (sym e ∙ g .row)
 
--- A step and the rest behind it.
+-- A step and the rest after it.
 pub record Read (K : Kind) (rest : ℕ) (ds : List ℕ) : Type 0 where
   pub fit : fits K (rest % byte) ≡ true
   pub less : rest / byte < rest
-  pub behind : Rest K (rest / byte)
-  pub all : ds ≡ rest % byte ∷ behind .left
+  pub past : Rest K (rest / byte)
+  pub all : ds ≡ rest % byte ∷ past .left
 
 read-row : {K : Kind} {rest : ℕ} (ds : List ℕ) → rest ≡ digits ds → allFit K ds ≡ true → (rest ≡ 1 → ⊥) → Read K rest ds
 unfolding digits allFit
@@ -75,7 +75,7 @@ read-row {K} {rest} (d ∷ ds) e h n =
     record {
       fit = rw (← digit) f;
       less = omega (arith, positive ds);
-      behind = record { left = ds; row = omega arith; fit = g };
+      past = record { left = ds; row = omega arith; fit = g };
       all = rw digit;
     }
 

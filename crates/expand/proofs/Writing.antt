@@ -80,20 +80,20 @@ module _ {s : List ℕ} {r from : ℕ} {old : List ℕ} where
       pub going-fits : fits (kindAt s r) (rest % byte) ≡ true
       going-fits = next .fit
 
-      sizes : rowCount s r (g .steps .left) ≡ stepCount s r (rest % byte) + rowCount s r (next .behind .left)
+      sizes : rowCount s r (g .steps .left) ≡ stepCount s r (rest % byte) + rowCount s r (next .past .left)
       unfolding stepsSize
       sizes = ap (rowCount s r) (next .all)
 
       bytes : rowBytes s r (g .steps .left) under n
           ≡ stepBytes s r (rest % byte) under n
-          ++ rowBytes s r (next .behind .left) (nextUnder (rest % byte) under n) (n + stepCount s r (rest % byte))
+          ++ rowBytes s r (next .past .left) (nextUnder (rest % byte) under n) (n + stepCount s r (rest % byte))
       unfolding stepsFrom
       bytes = ap (λ (ds : List ℕ). rowBytes s r ds under n) (next .all)
 
       module _ {e u : ℕ} {new : List ℕ} (p : Wrote (stepBytes s r (rest % byte) under n) n (stepCount s r (rest % byte)) out e new)
           (h : u ≡ nextUnder (rest % byte) under n) where
         written-more : e ≤ mostRecords → e ≡ n + stepCount s r (rest % byte) → Written s r from old (g .steps .left) under n out
-            → Written s r from old (next .behind .left) u e new
+            → Written s r from old (next .past .left) u e new
         written-more few exact v =
             let x = stepBytes s r (rest % byte) under n in
             let long = step-length (kindAt s r) (fieldA s r) (fieldB s r) (treeAt s) (rest % byte) under n in
@@ -106,7 +106,7 @@ module _ {s : List ℕ} {r from : ℕ} {old : List ℕ} where
 
         pub going-more : Going s r from old (rest / byte) u e new
         going-more = record {
-          steps = next .behind;
+          steps = next .past;
           low = omega (arith, p .next);
           below = omega (arith, h, p .next, g .low, under-below (rest % byte) under n (g .below));
           counted = rw (p .next) (stops n _ _ ∙ rw (← sizes) (g .counted));

@@ -4,7 +4,7 @@
 --   stepBytes s r d under n      those of its step d
 --   stepCount s r d              how many these are
 --   fits kind d                  a record of the kind may have the step d
---   Wrote bytes n size old e new    e is the number behind so many records from number n on; unless it is too high, their bytes were written
+--   Wrote bytes n size old e new    e is the number after so many records from number n on; unless it is too high, their bytes were written
 use Prim.Native.Nat.{ℕ, _+_, _*_, _<_, _≤_, min}
 use mathlib.Core.Path.{_≡_}
 use mathlib.Core.Bool.{Bool, true, false, cond, _&&_}

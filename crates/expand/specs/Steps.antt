@@ -1,4 +1,4 @@
--- A record's tree as a row of steps, each of which writes some records behind those before it. A step d is a byte: partA the tree of field
+-- A record's tree as a row of steps, each of which writes some records after those before it. A step d is a byte: partA the tree of field
 -- a, the next one the tree of field b; a lower one writes one record, whose kind is the low digit, and whose high digit tells its children:
 -- 0 is two, 1 is one, 2 is none. It takes the last one or two trees for them, or begins a tree; in between at most two trees stand by
 -- themselves, and `under` is where the second of two begins.
@@ -10,7 +10,7 @@
 --   partOf d a b            the record whose tree the step d, from partA on, writes; partUse what that field holds
 --   stepFrom .. d under n   the records that the step d writes, from number n on
 --   stepSize .. d           how many they are
---   nextUnder d under n     what `under` is behind them
+--   nextUnder d under n     what `under` is after them
 use Prim.Native.Nat.{ℕ, pred, _+_, _*_, _%_}
 use mathlib.Core.Bool.{cond}
 use mathlib.Core.List.{List, [], _∷_, _++_}

@@ -1,4 +1,4 @@
--- The grounds of judging. Behind sizes that fit stand the grounds of the rules, and behind those the cells'; and where no
+-- The grounds of judging. After sizes that fit stand the grounds of the rules, and after those the cells'; and where no
 -- ground applies, every rule is in form and each instant has a cell for each column.
 use Prim.Native.Nat.{ℕ}
 use mathlib.Core.Path.{_≡_, refl, sym, _∙_}

@@ -17,7 +17,7 @@ pub record Stretch (L : ℕ) (p : ℕ → Bool) (a b : ℕ) : Type 0 where
   pub last : b ≤ L
   pub before : (k : ℕ) → k < a → p k ≡ false
   pub within : (k : ℕ) → a ≤ k → k < b → p k ≡ true
-  pub behind : (k : ℕ) → b ≤ k → k < L → p k ≡ false
+  pub past : (k : ℕ) → b ≤ k → k < L → p k ≡ false
 
 place-stretch : (L place : ℕ) → 0 < L → place ≤ 3 → Stretch L (placed L place) (startOf L place) (endOf L place)
 unfolding placed startOf endOf
@@ -26,28 +26,28 @@ place-stretch L zero z h = record {
   last = omega arith;
   before = λ k l. absurd (omega arith);
   within = λ k _ _. refl;
-  behind = λ k l m. absurd (omega arith);
+  past = λ k l m. absurd (omega arith);
 }
 place-stretch L (suc zero) z h = record {
   order = omega arith;
   last = omega arith;
   before = λ k l. absurd (omega arith);
   within = λ k l m. eq-eqb k 0 (omega arith);
-  behind = λ k l m. ne-eqb k 0 (λ e. omega arith);
+  past = λ k l m. ne-eqb k 0 (λ e. omega arith);
 }
 place-stretch L (suc (suc zero)) z h = record {
   order = omega arith;
   last = omega arith;
   before = λ k l. le-ltb 0 k (omega arith);
   within = λ k l m. lt-ltb 0 k (omega arith);
-  behind = λ k l m. absurd (omega arith);
+  past = λ k l m. absurd (omega arith);
 }
 place-stretch L (suc (suc (suc zero))) z h = record {
   order = omega arith;
   last = omega arith;
   before = λ k l. ne-eqb (k + 1) L (λ e. omega arith);
   within = λ k l m. eq-eqb (k + 1) L (omega arith);
-  behind = λ k l m. absurd (omega arith);
+  past = λ k l m. absurd (omega arith);
 }
 place-stretch L (suc (suc (suc (suc n)))) z h = absurd (omega arith)
 

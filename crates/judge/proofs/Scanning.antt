@@ -68,7 +68,7 @@ module _ (ws : List ℕ) (L : ℕ) (cell : ℕ → ℕ → ℕ) where
     starting = on (failing i) a 0 (omega arith) (none _) (λ j _ l. skipped j (w .before j l))
 
     pub ending : (q : ℕ) → q ≡ b → each q (failing i) ≡ [] → rule-failing i ≡ []
-    ending q e d = on (failing i) L q (omega (arith, w .last)) d (λ j h l. skipped j (w .behind j (omega arith) l))
+    ending q e d = on (failing i) L q (omega (arith, w .last)) d (λ j h l. skipped j (w .past j (omega arith) l))
 
     module _ (k : ℕ) (h : a ≤ k) (l : k < b) {ρ : Rule} {t : Bool} (r : ρ ≡ ruleAt ws i) (test : t ≡ not (holds cell ρ k)) where
       tested : failsAt L cell (ruleAt ws i) k ≡ t

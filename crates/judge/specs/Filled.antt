@@ -3,7 +3,7 @@
 --   Lookable ρ W L cells k     a rule in form, and an instant of a filled trace
 --   six ..                     the rule of six words
 --   startOf L place            the first instant of a place
---   endOf L place              the instant behind its last
+--   endOf L place              the instant after its last
 --   Gives refusal .. answer    the four numbers are the answer's
 use Prim.Native.Nat.{ℕ, _*_, _-_, _<_, _≤_}
 use mathlib.Core.Path.{_≡_}

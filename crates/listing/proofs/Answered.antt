@@ -1,5 +1,5 @@
 -- What the translator's answer means for the text. A refusal other than 0 is the number that is printed. At 0 there was
--- room for all rules; their words stand in front of zeros, and a place behind a list counts as 0 too, so the lines of
+-- room for all rules; their words stand in front of zeros, and a place after a list counts as 0 too, so the lines of
 -- the words with the zeros are those of the words alone.
 use Prim.Native.Nat.{ℕ, zero, suc, _+_, _*_, _≤_}
 use mathlib.Core.Path.{_≡_, refl, sym, _∙_}

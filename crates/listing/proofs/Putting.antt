@@ -1,4 +1,4 @@
--- Texts put one behind another. What is put behind a text stands behind it, and the two are one text that was put.
+-- Texts put one after another. What is put after a text stands after it, and the two are one text that was put.
 use Prim.Native.Nat.{ℕ, _+_, _≤_}
 use mathlib.Core.Path.{_≡_, refl, ap, _∙_}
 use mathlib.Core.List.{List, [], _∷_, _++_}

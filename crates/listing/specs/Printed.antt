@@ -1,7 +1,7 @@
 -- Specification, The printing program: what it prints for the record bytes s, over 32 atoms.
 --   ascii t       the bytes of the text t
 --   decimal n     n in decimal
---   told n end    n in decimal and the byte behind it
+--   told n end    n in decimal and the byte after it
 --   word ws i j   word j of rule i of the words ws, and what parts it from the next
 --   line ws i     the six words of rule i on a line
 --   printed s     a line for each rule, then `rules` and how many; or only `refused` and the number
@@ -39,7 +39,7 @@ told n end = decimal n ++ (end ∷ [])
 abbrev pub lineEnd : ℕ
 lineEnd = code "\n"
 
--- Behind the last word the line ends.
+-- After the last word the line ends.
 unfoldable pub gap : ℕ → ℕ
 gap j = cond (eqb j 5) lineEnd (code " ")
 

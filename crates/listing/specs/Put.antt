@@ -1,5 +1,5 @@
 -- A text in a buffer.
---   Put old at t e new    `new` is `old` with t stored from `at` on, and e is the place behind t
+--   Put old at t e new    `new` is `old` with t stored from `at` on, and e is the place after t
 use Prim.Native.Nat.{ℕ, _+_}
 use mathlib.Core.Path.{_≡_}
 use mathlib.Core.List.{List}

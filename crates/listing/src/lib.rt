@@ -48,7 +48,7 @@ pub fn text(records: &[u8], out: &mut [u8; MOST_TEXT]) -> usize
     put_last(out, at, b"rules ", t.count)
 }
 
-// Puts a line for each of n rules at the start of the output, and gives the place behind them.
+// Puts a line for each of n rules at the start of the output, and gives the place after them.
 fn put_rules(out: &mut [u8], words: &[u16], n: usize) -> usize
     requires { ⌜ (6 * n ≤ length (now words)) × (36 * n ≤ length (now out)) ⌝ }
     ensures { λ e. ⌜ Put (now (out .entry)) 0 (each n (line (now (words .entry)))) e (now (out .exit)) × (e ≤ 36 * n) ⌝ }
@@ -62,7 +62,7 @@ fn put_rules(out: &mut [u8], words: &[u16], n: usize) -> usize
     at
 }
 
-// Puts the six words of rule i at a place, on a line, and gives the place behind the line.
+// Puts the six words of rule i at a place, on a line, and gives the place after the line.
 fn put_rule(out: &mut [u8], at: usize, words: &[u16], i: usize) -> usize
     requires { ⌜ (6 * i + 6 ≤ length (now words)) × (at + 36 ≤ length (now out)) ⌝ }
     ensures { λ e. ⌜ Put (now (out .entry)) at (line (now (words .entry)) i) e (now (out .exit)) × (e ≤ at + 36) ⌝ }
@@ -83,14 +83,14 @@ fn wide(w: u16) -> u64
     w as u64
 }
 
-// What stands behind word j of a rule.
+// What stands after word j of a rule.
 fn gap(j: usize) -> u8
     ensures { λ b. ⌜ b ≡ Printed·gap j ⌝ }
 {
     if j == 5 { LINE_END } else { SPACE }
 }
 
-// Puts the last line at a place, a word and a number, and gives the place behind the line.
+// Puts the last line at a place, a word and a number, and gives the place after the line.
 fn put_last(out: &mut [u8], at: usize, word: &[u8], n: u64) -> usize
     requires { ⌜ (n < 65536) × (at + length (now word) + 6 ≤ length (now out)) ⌝ }
     ensures { λ e. ⌜ Put (now (out .entry)) at (now (word .entry) ++ told n lineEnd) e (now (out .exit)) × (e ≤ at + length (now (word .entry)) + 6) ⌝ }
@@ -99,7 +99,7 @@ fn put_last(out: &mut [u8], at: usize, word: &[u8], n: u64) -> usize
     put_number(out, e, n, LINE_END)
 }
 
-// Puts the digits of n at a place, a byte behind them, and gives the place behind that.
+// Puts the digits of n at a place, a byte after them, and gives the place after that.
 fn put_number(out: &mut [u8], at: usize, n: u64, end: u8) -> usize
     requires { ⌜ (n < 65536) × (at + 6 ≤ length (now out)) ⌝ }
     ensures { λ e. ⌜ Put (now (out .entry)) at (told n end) e (now (out .exit)) × (e ≤ at + 6) ⌝ }
@@ -111,7 +111,7 @@ fn put_number(out: &mut [u8], at: usize, n: u64, end: u8) -> usize
     e + 1
 }
 
-// Copies the bytes to the output at a place, and gives the place behind them.
+// Copies the bytes to the output at a place, and gives the place after them.
 fn put_bytes(out: &mut [u8], at: usize, bytes: &[u8]) -> usize
     requires { ⌜ at + length (now bytes) ≤ length (now out) ⌝ }
     ensures { λ e. ⌜ Put (now (out .entry)) at (now (bytes .entry)) e (now (out .exit)) ⌝ }

@@ -1,5 +1,5 @@
 -- Records in postorder. A forest is a run of records that are sound, and each of them is the child of one place among them, but
--- for the roots. Two forests side by side have the roots of both; and a record behind a forest, whose fields are its roots,
+-- for the roots. Two forests side by side have the roots of both; and a record after a forest, whose fields are its roots,
 -- makes it a block: that record is its one root. So places add up, and no field has to be looked for.
 --   Sound full e A r            what the checks ask of record r
 --   Forest full e A n m roots   the records n .. m - 1 of e; roots r is 1 if r is one of the roots, else 0
@@ -90,7 +90,7 @@ module _ (full : Bool) (e : List ℕ) (A : ℕ) where
   root-tree : {n m k : ℕ} {σ : Sort} {t : Tree} → Block n m σ t → m ≤ k → getD (trees e k) (pred m) noTree ≡ t
   root-tree {n} {m} {k} block l = let s = block .some in trees-settled e k (pred m) (omega arith) ∙ block .tree
 
-  -- A record behind a forest whose roots its fields name.
+  -- A record after a forest whose roots its fields name.
   block-node : (n m a b : ℕ) (K : Kind) {p : ℕ → ℕ} {t : Tree} → n ≤ m → Forest n m p → Reads e m K a b
       → known full K ≡ true → Fits e A m (useA K) a → Fits e A m (useB K) b
       → ((r : ℕ) → names (useA K) a r + names (useB K) b r ≡ p r)

@@ -1,5 +1,5 @@
--- The first ground that applies. A list of grounds is clear if none applies; what stands behind a clear list decides, and what stands
--- behind one that has given its number does not. So a scan that goes on while nothing was found gives the first number of the whole list.
+-- The first ground that applies. A list of grounds is clear if none applies; what stands after a clear list decides, and what stands
+-- after one that has given its number does not. So a scan that goes on while nothing was found gives the first number of the whole list.
 use Prim.Native.Nat.{ℕ, zero, suc, _+_, _<_}
 use mathlib.Core.Path.{_≡_, refl, sym, _∙_}
 use mathlib.Core.Bool.{Bool, true, false, cond}
@@ -40,13 +40,13 @@ none-clear [] n e = tt
 none-clear (g ∷ gs) n e =
     ⊎-elim (λ h. absurd (omega (arith, h .1, n .0))) (λ h. (h .0, none-clear gs (n .1) (sym (h .1) ∙ e))) (by-ground g (firstOf gs))
 
--- Behind a clear list, the rest decides.
+-- After a clear list, the rest decides.
 pub clear-skip : (gs hs : List Ground) → Clear gs → firstOf (gs ++ hs) ≡ firstOf hs
 unfolding firstOf
 clear-skip [] hs c = refl
 clear-skip (g ∷ gs) hs c = rw (c .0) (clear-skip gs hs (c .1))
 
--- Behind a number that was found, nothing does.
+-- After a number that was found, nothing does.
 pub found-stop : (gs hs : List Ground) → (firstOf gs ≡ 0 → ⊥) → firstOf (gs ++ hs) ≡ firstOf gs
 unfolding firstOf
 found-stop [] hs f = absurd (f refl)

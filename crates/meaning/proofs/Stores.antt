@@ -1,4 +1,4 @@
--- Runs of stores. What is stored right behind a run makes one run with it, and a run from the first place on is what is
+-- Runs of stores. What is stored right after a run makes one run with it, and a run from the first place on is what is
 -- written.
 use Prim.Native.Nat.{ℕ, suc, _+_, _≤_}
 use mathlib.Core.Path.{_≡_}

@@ -1,5 +1,5 @@
 -- Until and since solve the equations of their stars. Until at k is G there, or F there and until at the next instant;
--- since at k is G there, or F and since at the previous instant. What a later instant adds is behind the same test of F
+-- since at k is G there, or F and since at the previous instant. What a later instant adds is after the same test of F
 -- in all of them, so the test stands before their greatest.
 use Prim.Native.Nat.{ℕ, _+_, _≤_, _<_, min, zero-le}
 use mathlib.Core.Path.{_≡_, _∙_}
@@ -38,7 +38,7 @@ module _ (L : ℕ) (f g : Row) (low : (k : ℕ) → k < L → g k ≤ 2) where
   until-bound : (k : ℕ) → k < L → untilRow L f g k ≤ 2
   until-bound k l = stretch-bound diamond k L (untilAt f g k) (λ j b. omega (arith, low j b))
 
-  -- The instants after k, behind F at k.
+  -- The instants after k, after F at k.
   until-later : (k : ℕ) → greatestIn (k + 1) L (untilAt f g k) ≡ min (f k) (untilRow L f g (k + 1))
   unfolding joined
   until-later k =
@@ -63,7 +63,7 @@ module _ (L : ℕ) (f g : Row) (low : (k : ℕ) → k < L → g k ≤ 2) where
   since-bound : (k : ℕ) → k < L → sinceRow f g k ≤ 2
   since-bound k l = stretch-bound diamond 0 (k + 1) (sinceAt f g k) (λ j b. omega (arith, low j (omega arith)))
 
-  -- The instants up to i, behind F at i, as the next instant has them.
+  -- The instants up to i, after F at i, as the next instant has them.
   since-earlier : (i : ℕ) → greatestIn 0 (i + 1) (sinceAt f g (i + 1)) ≡ min (f i) (sinceRow f g i)
   unfolding joined
   since-earlier i =

@@ -17,7 +17,7 @@ unfoldable pub joined : Mode → ℕ → ℕ → ℕ
 joined diamond u v = max u v
 joined box u v = min u v
 
--- What is behind a test: under a diamond as much as both are worth, under a box the implication.
+-- What is after a test: under a diamond as much as both are worth, under a box the implication.
 unfoldable pub gate : Mode → ℕ → ℕ → ℕ
 gate diamond u v = min u v
 gate box u v = imp u v
@@ -76,7 +76,7 @@ unfolding Within joined
 within-joined diamond a u v y = (omega arith, omega arith)
 within-joined box a u v y = (omega arith, omega arith)
 
--- A gate is within y if, up to its test, what is behind it is.
+-- A gate is within y if, up to its test, what is after it is.
 pub within-gate : (m : Mode) (a u v y : ℕ) → Within m a (gate m u v) y ↔ Within m (min a u) v y
 unfolding Within gate
 within-gate diamond a u v y = (omega arith, omega arith)
@@ -144,7 +144,7 @@ pub row-is : (m : Mode) (L : ℕ) (p : Square) (c : Row) (k x : ℕ) → Fits m 
 row-is m L p c k x f h =
     same-within m _ x (fits-row m L p c k) f (λ a y. Iff·trans (within-row m L p c k a y) (h a y))
 
--- Behind a test that holds stands the value itself.
+-- After a test that holds stands the value itself.
 pub gate-two : (m : Mode) (v : ℕ) → v ≤ 2 → gate m 2 v ≡ v
 unfolding gate
 gate-two diamond v b = omega arith

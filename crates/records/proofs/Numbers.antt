@@ -1,4 +1,4 @@
--- The kinds behind the numbers 0 to 10: the code asks for a number, the definitions for a kind. Records that passed the
+-- The kinds of the numbers 0 to 10: the code asks for a number, the definitions for a kind. Records that passed the
 -- check have these numbers alone, 0 to 4 where they are formulas and 5 to 10 where they are paths.
 use Prim.Native.Nat.{ℕ, zero, suc, _+_, _<_, _≤_}
 use mathlib.Core.Path.{_≡_, refl, sym, _∙_}

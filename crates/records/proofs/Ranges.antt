@@ -1,6 +1,6 @@
 -- What holds of the kind with a given number. A function of kinds, taken at the listed ones in turn, is a list that
 -- antt computes, so a rule for a stretch of numbers is one equation between lists: the function's values there are the
--- code's table, or one value again and again. Behind the list the function has its value at `unknown`.
+-- code's table, or one value again and again. After the list the function has its value at `unknown`.
 use Prim.Native.Nat.{ℕ, zero, suc, _+_, _-_, _<_, _≤_}
 use mathlib.Core.Path.{_≡_, refl, sym, _∙_}
 use mathlib.Core.List.{List, map}

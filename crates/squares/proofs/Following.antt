@@ -41,7 +41,7 @@ passing-none e = record {
   size = e;
   passed = λ k j a b l. absurd (omega arith);
   before = λ k j h l. refl;
-  behind = λ k j h l. refl;
+  past = λ k j h l. refl;
 }
 
 -- Row k is made of itself, which no turn before has changed, and of a copy f of row mid from before the first turn.
@@ -53,10 +53,10 @@ passing-more {mid} {from} {k} {old = old} {new = new} h g w copy p = record {
   passed = λ r j a b l.
       below-more (λ (r : ℕ). from ≤ r → at new r j ≡ by (at old) mid r j) k
       (λ r m a. p .others r j (λ z. omega arith) l ∙ w .passed r j a m l)
-      (λ _. let own = w .behind k in p .row j l ∙ omega (arith, own j (le-refl k) l, own mid (le-refl k) h, copy j l))
+      (λ _. let own = w .past k in p .row j l ∙ omega (arith, own j (le-refl k) l, own mid (le-refl k) h, copy j l))
       r b a;
   before = λ r j b l. p .others r j (λ z. omega arith) l ∙ w .before r j b l;
-  behind = λ r j b l. p .others r j (λ z. omega arith) l ∙ w .behind r j (omega arith) l;
+  past = λ r j b l. p .others r j (λ z. omega arith) l ∙ w .past r j (omega arith) l;
 }
 
 -- A pass of row k alone.
@@ -65,5 +65,5 @@ passed-one {mid} {k} {old} {new} w = record {
   size = w .size;
   row = λ j l. w .passed k j (le-refl k) (omega arith) l;
   others = λ q j n l.
-      ⊎-elim (λ (h : k ≤ q). w .behind q j (omega arith) l) (λ (h : q < k). w .before q j h l) (le-or-lt k q);
+      ⊎-elim (λ (h : k ≤ q). w .past q j (omega arith) l) (λ (h : q < k). w .before q j h l) (le-or-lt k q);
 }

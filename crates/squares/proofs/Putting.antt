@@ -1,4 +1,4 @@
--- Rows that are written from their front. The places of a row stand side by side, so a place before or behind the row,
+-- Rows that are written from their front. The places of a row stand side by side, so a place before or after the row,
 -- or in another row of a square, is none of them and is as it was. What a modality makes of an earlier row of the table
 -- is then the same before and after each turn.
 use Prim.Native.Nat.{ℕ, _+_, _*_, _<_, _≤_}

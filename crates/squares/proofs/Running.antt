@@ -1,6 +1,6 @@
 -- The star of a square p that is at most a move: from k a pass leads to the instant beside alone. So row k of the star
 -- is what there is with no pass, or the row of the instant beside, capped by the value to it; at the edge, the former.
--- Rows are written one after the other, each behind the one that it needs.
+-- Rows are written one after the other, each after the one that it needs.
 use Prim.Native.Nat.{ℕ, _<_, _≤_, min, max}
 use mathlib.Core.Path.{_≡_, refl, subst, _∙_}
 use mathlib.Core.Bool.{Bool, true, false, cond}

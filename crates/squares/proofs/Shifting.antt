@@ -1,4 +1,4 @@
--- A move behind a path: it leads to j from the one instant i beside it, so the value from k to j is the path's to i. Row
+-- A move after a path: it leads to j from the one instant i beside it, so the value from k to j is the path's to i. Row
 -- by row, the values move by one place, and where there is no such instant a 0 comes in. Before a path, whole rows move.
 use Prim.Native.Nat.{ℕ, zero, suc, _+_, _-_, _<_, _≤_, zero-le}
 use mathlib.Core.Path.{_≡_, refl, sym, subst, _∙_}
@@ -27,16 +27,16 @@ beside-from ahead i q j a b = omega arith
 beside-from back i q j a b = omega arith
 
 module _ (w : Way) (L : ℕ) (p : Square) (k j : ℕ) where
-  move-behind : (i : ℕ) → i < L → Beside w i j → p k i ≤ 2 → sequenceSquare L p (moveSquare w) k j ≡ p k i
-  move-behind i l b low =
+  move-after : (i : ℕ) → i < L → Beside w i j → p k i ≤ 2 → sequenceSquare L p (moveSquare w) k j ≡ p k i
+  move-after i l b low =
       le-antisymm
       (le-above (sequenceSquare L p (moveSquare w) k j) (p k i) (λ v z a.
       let (q, ql, x, y) = sequence-elim L p (moveSquare w) k j v z a in
       subst (λ (q : ℕ). v ≤ p k q) (beside-from w i q j b (move-beside w q j (le-trans z y))) x))
       (sequence-intro L p (moveSquare w) k i j (p k i) l (le-refl _) (rw (beside-move w i j b) low))
 
-  none-behind : ((i : ℕ) → i < L → Beside w i j → ⊥) → sequenceSquare L p (moveSquare w) k j ≡ 0
-  none-behind none =
+  none-after : ((i : ℕ) → i < L → Beside w i j → ⊥) → sequenceSquare L p (moveSquare w) k j ≡ 0
+  none-after none =
       le-antisymm
       (le-above (sequenceSquare L p (moveSquare w) k j) 0 (λ v z a.
       let (q, ql, x, y) = sequence-elim L p (moveSquare w) k j v z a in
@@ -100,9 +100,9 @@ padded-same w e = record { front = w .front; inside = λ j h. w .inside j h ∙ 
 module _ {L : ℕ} (p : Square) (k : ℕ) {row : List ℕ} (low : (j : ℕ) → j < L → p k j ≤ 2) (w : Padded L (p k) row) where
   on-row : (j : ℕ) → j < L → getD row j 0 ≡ sequenceSquare L p (moveSquare ahead) k j
   unfolding Beside
-  on-row zero h = w .front ∙ (let e = none-behind ahead L p k 0 (λ i l b. omega arith) in rw e)
+  on-row zero h = w .front ∙ (let e = none-after ahead L p k 0 (λ i l b. omega arith) in rw e)
   on-row (suc i) h =
-      let e = move-behind ahead L p k (suc i) i (omega arith) (omega arith) (low i (omega arith)) in
+      let e = move-after ahead L p k (suc i) i (omega arith) (omega arith) (low i (omega arith)) in
       rw (e, ← add-one) (w .inside i (omega arith))
 
   back-row : (j : ℕ) → j < L → getD row (j + 2) 0 ≡ sequenceSquare L p (moveSquare back) k j
@@ -110,11 +110,11 @@ module _ {L : ℕ} (p : Square) (k : ℕ) {row : List ℕ} (low : (j : ℕ) → 
   back-row j h =
       ⊎-elim
       (λ (l : L ≤ j + 1).
-      let e = none-behind back L p k j (λ i m b. omega arith) in
+      let e = none-after back L p k j (λ i m b. omega arith) in
       let d : j + 2 ≡ L + 1 = omega arith in
       rw (e, d) (w .end))
       (λ (l : j + 1 < L).
-      let e = move-behind back L p k j (j + 1) l refl (low (j + 1) l) in
+      let e = move-after back L p k j (j + 1) l refl (low (j + 1) l) in
       let d : j + 2 ≡ j + 1 + 1 = omega arith in
       rw (e, d) (w .inside (j + 1) l))
       (le-or-lt L (j + 1))

@@ -11,7 +11,7 @@
 --   shiftOf                  where the padded row starts that a move of the kind makes of a row
 --   Part L kind s            the square s has values, and those of a move if the kind is a move's
 --   besideOf kind L k        the instant to which a move of the kind leads from k, or L or more if there is none
---   nextCell                 how far behind k * 33 the value of a move of the kind stands
+--   nextCell                 how far after k * 33 the value of a move of the kind stands
 use Prim.Native.Nat.{ℕ, _+_, _*_, _-_, _<_, _≤_, min, max}
 use mathlib.Core.Path.{_≡_}
 use mathlib.Core.Bool.{cond}

@@ -27,7 +27,7 @@ pub record PassedRows (mid from to : ℕ) (old new : List ℕ) : Type 0 where
   pub size : length new ≡ 1024
   pub passed : (k j : ℕ) → from ≤ k → k < to → j < 32 → at new k j ≡ by (at old) mid k j
   pub before : (k j : ℕ) → k < from → j < 32 → at new k j ≡ at old k j
-  pub behind : (k j : ℕ) → to ≤ k → j < 32 → at new k j ≡ at old k j
+  pub past : (k j : ℕ) → to ≤ k → j < 32 → at new k j ≡ at old k j
 
 abbrev pub Moving : Way → ℕ → Square → Type 0
 Moving w L p = (k j : ℕ) → k < L → j < L → p k j ≤ moveSquare w k j

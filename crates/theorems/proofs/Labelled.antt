@@ -35,7 +35,7 @@ Right s L cell X r = (k : ℕ) → k < L → X r k ≡ meant s L cell (sortOf (k
 
 module _ {s : List ℕ} {A L : ℕ} {cell grid : ℕ → ℕ → ℕ} (w : WellFormed false s A) (low : (k i : ℕ) → grid k i ≤ 2)
     (same : (k i : ℕ) → k < L → i < A → grid k i ≡ cell k i) where
-  -- The labels as they stand in the grid, behind the atoms.
+  -- The labels as they stand in the grid, after the atoms.
   abbrev X : ℕ → Row
   X r k = grid k (A + r)
 

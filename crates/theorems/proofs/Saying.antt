@@ -1,5 +1,5 @@
 -- What the rules of a record say of its label, as an equation at each instant: the label is another literal; a join;
--- what is behind a test; or the row of a move over the continuation. A rule says that one value is at most another, and
+-- what is after a test; or the row of a move over the continuation. A rule says that one value is at most another, and
 -- two such make an equation. The rules of a move compare an instant with the one beside it, and its third rule is for
 -- the instant that has none beside it.
 use Prim.Native.Nat.{ℕ, zero, suc, pred, _+_, _*_, _-_, _≤_, _<_, min, max}

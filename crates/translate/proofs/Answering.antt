@@ -1,4 +1,4 @@
--- What the translator answers. Its grounds are those that its first refusal looks at, and behind them the room: so a
+-- What the translator answers. Its grounds are those that its first refusal looks at, and after them the room: so a
 -- refusal other than 0 is the answer, and at 0 the room alone decides.
 use Prim.Native.Nat.{ℕ, _*_, _<_, _≤_}
 use mathlib.Core.Path.{_≡_, sym, _∙_}

@@ -1,4 +1,4 @@
--- Rules written one after another. The words of rules end to end are the words of each, six a rule; so rules put behind
+-- Rules written one after another. The words of rules end to end are the words of each, six a rule; so rules put after
 -- rules are one list of rules that was put. So follow the rows of a record, and so the rules of the records.
 use Prim.Native.Nat.{ℕ, zero, suc, pred, _+_, _*_, _<_, _≤_}
 use mathlib.Core.Path.{_≡_, refl, ap, _∙_}
@@ -36,7 +36,7 @@ module _ {T : Type 0} (f : ℕ → List T) where
       elim (below-suc l)
       [ inl e ↦ rw e (le-refl _) | inr m ↦ omega (arith, each-grows n r m, length-append (each n f) (f n)) ]
 
--- ---- rules put behind rules
+-- ---- rules put after rules
 pub put-none : (at : ℕ) (old : List ℕ) → Put old at [] at old
 unfolding words
 put-none at old = record { place = omega arith; whole = refl }
@@ -59,7 +59,7 @@ pub rules-more : (rows : List (List ℕ)) (i : ℕ) (row : List ℕ) → i < len
     → rulesIn rows (i + 1) ≡ rulesIn rows i ++ (ruleOf (getD rows i row) ∷ [])
 rules-more rows i row l = rw (add-one i, take-suc rows i row l) (map-append ruleOf (take i rows) _)
 
--- One row more is put behind those before it.
+-- One row more is put after those before it.
 pub put-next : {old mid new : List ℕ} {at e f i : ℕ} (rows : List (List ℕ)) → Put old at (rulesIn rows i) e mid
     → Put mid e (ruleOf (getD rows i []) ∷ []) f new → {n : ℕ} → i < n → n ≤ length rows → Put old at (rulesIn rows (i + 1)) f new
 put-next {i = i} rows p q l h = rw (rules-more rows i [] (omega arith)) (put-more p q)

@@ -3,7 +3,7 @@
 --   Rowed rows rules            the first rows, as many as there are rules, hold them
 --   Small word                  a word with room for a mark
 --   edgeBody, edgeHead          the words of an edge rule, by the number of the modality's kind
---   Put old at rules e new      `new` is `old` with the words of the rules stored from `at` on, and e is the place behind them
+--   Put old at rules e new      `new` is `old` with the words of the rules stored from `at` on, and e is the place after them
 use Prim.Native.Nat.{ℕ, _+_, _*_, _<_}
 use mathlib.Core.Path.{_≡_}
 use mathlib.Core.Bool.{cond}

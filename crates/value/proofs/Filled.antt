@@ -1,5 +1,5 @@
 -- The finished table. It was cleared, and then the last record was valued: every record is under the last, so a
--- formula's row is right; a path's row is as it was cleared, 0; and what stands behind the rows is as it was at first.
+-- formula's row is right; a path's row is as it was cleared, 0; and what stands after the rows is as it was at first.
 use Prim.Native.Nat.{ℕ, suc, pred, _+_, _*_, _<_, _≤_}
 use mathlib.Core.Path.{_≡_, refl, sym, ap, _∙_}
 use mathlib.Core.List.{List}

@@ -1,4 +1,4 @@
--- The grounds of valuing. Behind a length that is right and sizes that fit stand the grounds of the records, the cells
+-- The grounds of valuing. After a length that is right and sizes that fit stand the grounds of the records, the cells
 -- and the room; and where no ground applies, the records are a tree, the cells a trace, and the table has room.
 use Prim.Native.Nat.{ℕ, _*_, _<_, _≤_}
 use mathlib.Core.Path.{_≡_, refl, sym, _∙_}

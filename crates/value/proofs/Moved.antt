@@ -1,5 +1,5 @@
 -- A path that is one move with tests about it, by its records. A test leads from an instant to itself alone, so before
--- a path or behind it the whole leads no farther: the path's square is at most the move's.
+-- a path or after it the whole leads no farther: the path's square is at most the move's.
 use Prim.Native.Nat.{ℕ, _<_, _≤_}
 use mathlib.Core.Path.{_≡_, refl, sym, ap, subst, _∙_}
 use mathlib.Core.Bool.{false}

@@ -1,6 +1,6 @@
 -- The table while records are valued. A row that is written is the row of one formula, and rows do not overlap: so
 -- right rows stay right, rows of paths stay as they were, and what is done for an earlier record leaves everything
--- behind a later one's row.
+-- after a later one's row.
 use Prim.Native.Nat.{ℕ, _+_, _*_, _<_, _≤_}
 use mathlib.Core.Path.{_≡_, refl, _∙_}
 use mathlib.Core.Logic.{⊎-elim}

@@ -1,5 +1,5 @@
 -- From what stands in each row to the whole table. A part of a list whose values go by a rule is the rule's list; the
--- rows stand end to end; and behind them the list is as it was.
+-- rows stand end to end; and after them the list is as it was.
 use Prim.Native.Nat.{ℕ, zero, suc, _+_, _*_, _<_, _≤_}
 use mathlib.Core.Path.{_≡_, refl, sym, ap, ap₂, _∙_}
 use mathlib.Core.List.{List, [], _∷_, _++_}

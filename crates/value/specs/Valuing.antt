@@ -3,10 +3,10 @@
 --   Right s A L cells t q          the table t has the values of formula q in its row
 --   Legal s A L cells room         what the refusals leave: a formula, a trace, and room for the table
 --   Asked s A L cells r t          what is asked where record r is valued into the table t
---   Steady s A L cells r old new   right rows stay right, and so do the rows of paths and all that stands behind row r
+--   Steady s A L cells r old new   right rows stay right, and so do the rows of paths and all that stands after row r
 --   Valued s A L cells r old new   besides, the rows of the formulas under r are right
 --   Squared s A L cells p bytes    the bytes are the square of path p
---   Moves s n p                    path p is a move of the kind n, with tests before it or behind it
+--   Moves s n p                    path p is a move of the kind n, with tests before it or after it
 --   PathSquare s L p bytes         over L instants the bytes are the square of path p, on some trace
 use Prim.Native.Nat.{ℕ, _+_, _*_, _<_, _≤_}
 use mathlib.Core.Path.{_≡_}

@@ -21,7 +21,7 @@ use Rattle.expand.proofs.Answering.{last-asked, last-size, last-bytes, 
 use Rattle.expand.proofs.expand.Statement.{statement}
 use Rattle.expand.proofs.expand.Tie as tie
 
--- ---- what is known behind each test
+-- ---- what is known after each test
 abbrev start : tie.Else1 → tie.Start
 start c = c .before .before .before .before
 

@@ -8,7 +8,7 @@ use Rattle.judge.proofs.Grounds.{refused-8, refused-13, cells-decide}
 use Rattle.judge.proofs.first_refusal.Statement.{statement}
 use Rattle.judge.proofs.first_refusal.Tie as tie
 
--- What is known behind the first test.
+-- What is known after the first test.
 fits : (c : tie.Else1)
     → let a = c .before .before .before .before .args in
     ground8-cells mostColumns (a .width) (a .instants) (a .cells .now) .applies ≡ false

@@ -1,4 +1,4 @@
--- `rule_at` meets its contract: the six words stand one behind the other.
+-- `rule_at` meets its contract: the six words stand one after the other.
 use native.Mathlib.Nat.{add-zero}
 use Rattle.meaning.specs.Rule.{ruleAt}
 use borrow.Author.Needs.{needs}

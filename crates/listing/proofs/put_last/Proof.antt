@@ -1,4 +1,4 @@
--- `put_last` meets its contract: the number is put behind the word.
+-- `put_last` meets its contract: the number is put after the word.
 use native.Mathlib.Omega.{arith}
 use borrow.Author.Needs.{needs}
 use Rattle.listing.proofs.Putting.{put-more}

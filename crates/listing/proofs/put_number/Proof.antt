@@ -1,4 +1,4 @@
--- `put_number` meets its contract: the digits are the fewest, at most five, and one byte is put behind them.
+-- `put_number` meets its contract: the digits are the fewest, at most five, and one byte is put after them.
 use Prim.Native.Nat.{_≤_}
 use mathlib.Core.Path.{_∙_}
 use native.Mathlib.Omega.{arith}

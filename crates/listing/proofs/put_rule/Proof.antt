@@ -1,4 +1,4 @@
--- `put_rule` meets its contract: behind j words their texts stand on the line.
+-- `put_rule` meets its contract: after j words their texts stand on the line.
 use Prim.Native.Nat.{_+_, _*_, _-_, _≤_}
 use mathlib.Core.Path.{_≡_}
 use native.Mathlib.Omega.{arith}

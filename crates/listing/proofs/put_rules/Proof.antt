@@ -1,4 +1,4 @@
--- `put_rules` meets its contract: behind i rules their lines stand at the start.
+-- `put_rules` meets its contract: after i rules their lines stand at the start.
 use Prim.Native.Nat.{_*_, _-_, _≤_}
 use mathlib.Core.Path.{_≡_}
 use native.Mathlib.Omega.{arith}

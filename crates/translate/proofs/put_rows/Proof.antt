@@ -1,4 +1,4 @@
--- `put_rows` meets its contract: the first i rows are put one behind another.
+-- `put_rows` meets its contract: the first i rows are put one after another.
 use Prim.Native.Nat.{_≤_, _-_, _+_, _*_}
 use mathlib.Core.Path.{_≡_}
 use native.Mathlib.Omega.{arith}

@@ -1,4 +1,4 @@
--- `rule_count` meets its contract: behind r records the count is that of their rules and the last.
+-- `rule_count` meets its contract: after r records the count is that of their rules and the last.
 use Prim.Native.Nat.{_+_, _-_, _<_, _≤_}
 use mathlib.Core.Path.{_≡_}
 use native.Mathlib.Omega.{arith}

@@ -17,7 +17,7 @@ use Rattle.translate.proofs.Rowing.{handed-moded}
 use Rattle.translate.proofs.translate.Statement.{statement}
 use Rattle.translate.proofs.translate.Tie as tie
 
--- ---- what is known behind the first refusals
+-- ---- what is known after the first refusals
 abbrev start : tie.Else1 → tie.Start
 start c = c .before .before .before .before
 

@@ -1,4 +1,4 @@
--- `write_rules` meets its contract: behind r records their rules stand at the front, and the last rule follows them.
+-- `write_rules` meets its contract: after r records their rules stand at the front, and the last rule follows them.
 use Prim.Native.Nat.{_-_, _<_, _≤_}
 use mathlib.Core.Path.{_≡_}
 use native.Mathlib.Omega.{arith}
@@ -22,7 +22,7 @@ Inv-loop records atoms modes conts out₀ n at₀ r₀ out at r = (r ≤ n) × P
 abbrev μ-loop : tie.MeasureT-loop
 μ-loop records atoms modes conts out₀ n at₀ r₀ out at r = n - r
 
--- ---- places: in the loop, and behind it
+-- ---- places: in the loop, and after it
 abbrev start : tie.At-loop Inv-loop μ-loop → tie.Start Inv-loop μ-loop
 start c = c .before .before .before .before
 

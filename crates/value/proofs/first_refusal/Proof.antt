@@ -12,7 +12,7 @@ use Rattle.value.proofs.Grounds.{refused-1, refused-8, refused-tree, re
 use Rattle.value.proofs.first_refusal.Statement.{statement}
 use Rattle.value.proofs.first_refusal.Tie as tie
 
--- ---- what is known behind each test
+-- ---- what is known after each test
 abbrev start : tie.Else1 → tie.Start
 start c = c .before .before .before .before
 

@@ -1,7 +1,7 @@
 -- `fault::tree_refusal` meets its contract: the records decide, then the last record's sort, then the places.
 use mathlib.Core.Path.{sym, _∙_}
 use Rattle.checks.proofs.Counting.{none}
-use Rattle.checks.proofs.Scan.{tree-record, Behind, tree-behind}
+use Rattle.checks.proofs.Scan.{tree-record, Past, tree-after}
 use borrow.Author.Needs.{needs}
 use Rattle.checks.proofs.refusal.tree_refusal.Statement.{statement}
 use Rattle.checks.proofs.refusal.tree_refusal.Tie as tie
@@ -13,19 +13,19 @@ returns : tie.Need-returns
 returns c = tree-record _ _ _ (c .before .records-refusal .ensures .refusal) (c .if1 .taken)
 
 -- What is known once the last record's sort is read.
-behind : (c : tie.After-sort-of)
+past : (c : tie.After-sort-of)
     → let a = c .before .before .before .before .before .before .before .args in
-    Behind (a .full) (a .s .now) (a .atoms) (c .sort-of .result)
-behind c =
+    Past (a .full) (a .s .now) (a .atoms) (c .sort-of .result)
+past c =
     let d = c .before .before in
-    tree-behind _ _ _
+    tree-after _ _ _
     (sym (d .before .before .records-refusal .ensures .refusal) ∙ d .before .if1 .left)
     (d .record-count .ensures)
     (c .before .kind-at .ensures)
     (c .sort-of .ensures)
 
 returns-2 : tie.Need-returns-2
-returns-2 c = behind (c .before) .last (c .if2 .taken)
+returns-2 c = past (c .before) .last (c .if2 .taken)
 
 places-refusal-requires : tie.Need-places-refusal-requires
 places-refusal-requires c κs =
@@ -34,7 +34,7 @@ places-refusal-requires c κs =
     (pre .0, pre .1, d .before .records-refusal .ensures .places (d .if1 .left))
 
 returns-3 : tie.Need-returns-3
-returns-3 c = c .places-refusal .ensures ∙ behind (c .before .before .before) .places (c .before .before .if2 .left)
+returns-3 c = c .places-refusal .ensures ∙ past (c .before .before .before) .places (c .before .before .if2 .left)
 
 pub tree-refusal-spec : {M : Type 1} → statement M
 tree-refusal-spec =

@@ -14,15 +14,15 @@ use Rattle.expand.specs.Steps.{formSteps, pathSteps, stepsOf, digits, ro
 use Rattle.expand.proofs.steps.row_of.Statement.{statement}
 use Rattle.expand.proofs.steps.row_of.Tie as tie
 
--- What the default of a `match` knows: k is none of a stretch of numbers, nor of those before, A. So from the stretch on it is behind it.
+-- What the default of a `match` knows: k is none of a stretch of numbers, nor of those before, A. So from the stretch on it is after it.
 Others : Type 0 → ℕ → ℕ → ℕ → Type 0
 Others A k start zero = A
 Others A k start (suc size) = Others A k start size × (k ≡ start + size → ⊥)
 
-others-behind : (A : Type 0) (k start size : ℕ) → Others A k start size → start ≤ k → start + size ≤ k
+others-after : (A : Type 0) (k start size : ℕ) → Others A k start size → start ≤ k → start + size ≤ k
 unfolding Others
-others-behind A k start zero none h = omega arith
-others-behind A k start (suc size) (none, other) h = omega (arith, others-behind A k start size none h)
+others-after A k start zero none h = omega arith
+others-after A k start (suc size) (none, other) h = omega (arith, others-after A k start size none h)
 
 others-before : (A : Type 0) (k start size : ℕ) → Others A k start size → A
 unfolding Others
@@ -34,8 +34,8 @@ unfolding Others kinds stepsOf digits formSteps pathSteps expansion modalNumber 
 no-kind c = go (ltb (c .before .args .kind) 32) refl
   where
     go : (low : Bool) → ltb (c .before .args .kind) 32 ≡ low → 1 ≡ rowOf (kindOf (c .before .args .kind))
-    go true e = stretch rowOf 1 11 21 refl _ (others-behind Unit _ 0 11 (others-before _ _ 32 16 (c .match .rest)) (omega arith)) (ltb-true _ _ e)
-    go false e = onward rowOf 48 0 refl _ (others-behind (Others Unit _ 0 11) _ 32 16 (c .match .rest) (ltb-false _ _ e))
+    go true e = stretch rowOf 1 11 21 refl _ (others-after Unit _ 0 11 (others-before _ _ 32 16 (c .match .rest)) (omega arith)) (ltb-true _ _ e)
+    go false e = onward rowOf 48 0 refl _ (others-after (Others Unit _ 0 11) _ 32 16 (c .match .rest) (ltb-false _ _ e))
 
 pub row-of-spec : {M : Type 1} → statement M
 unfolding kinds kindOf stepsOf digits formSteps pathSteps expansion modalNumber moveNumber

@@ -1,4 +1,4 @@
--- `write::copy` meets its contract: the bytes passed are stored from the output's start on, and each one more behind them.
+-- `write::copy` meets its contract: the bytes passed are stored from the output's start on, and each one more after them.
 use Prim.Native.Nat.{ℕ, _+_, _-_, _<_, _≤_}
 use mathlib.Core.Path.{_≡_, ap}
 use mathlib.Core.List.{List, [], _∷_}

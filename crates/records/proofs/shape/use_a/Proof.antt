@@ -1,4 +1,4 @@
--- `records::shape::use_a` meets its contract: each stretch of kinds has its number, and kinds behind the last use nothing.
+-- `records::shape::use_a` meets its contract: each stretch of kinds has its number, and kinds after the last use nothing.
 use Prim.Native.Nat.{ℕ}
 use mathlib.Core.Path.{refl}
 use native.Mathlib.Omega.{arith}

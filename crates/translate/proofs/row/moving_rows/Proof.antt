@@ -1,4 +1,4 @@
--- `moving_rows` meets its contract: two rules, and behind them the edge rule.
+-- `moving_rows` meets its contract: two rules, and after them the edge rule.
 use borrow.Author.Needs.{needs}
 use Rattle.translate.proofs.Rowing.{edge-words}
 use Rattle.translate.proofs.row.moving_rows.Statement.{statement}
