@@ -100,14 +100,13 @@ struct Tried {
 /// What every service asks of a formula; the records that come out; room.
 fn tried(input: Input) -> Tried {
     let refusal = formula_refusal(&input.formula, false);
-    if refusal != Refusal::Accepted {
+    if refusal != Accepted {
         return Tried { input, refusal, out: 0, written: vec![] };
     }
     let records = expansion(&input.formula);
     let out = records.len();
-    let refusal =
-        refusal.or(Refusal::TooLong, || out > MOST_RECORDS).or(Refusal::NoRoom, || input.room < RECORD_SIZE * out);
-    Tried { input, refusal, out, written: if refusal == Refusal::Accepted { records.concat() } else { vec![] } }
+    let refusal = refusal.or(TooLong, || out > MOST_RECORDS).or(NoRoom, || input.room < RECORD_SIZE * out);
+    Tried { input, refusal, out, written: if refusal == Accepted { records.concat() } else { vec![] } }
 }
 
 // ---- random inputs
@@ -261,7 +260,7 @@ fn unsettled(library: &mut Library, random: &mut Random, core: &[u8], atoms: u64
     if let Some(what) = checked {
         return Some(format!("checking what came out: {what}"));
     }
-    let expanded = expand_difference(library, random, (core, atoms), core.len(), Refusal::Accepted, core);
+    let expanded = expand_difference(library, random, (core, atoms), core.len(), Accepted, core);
     expanded.map(|what| format!("expanding what came out: {what}"))
 }
 
@@ -270,7 +269,7 @@ fn difference(library: &mut Library, random: &mut Random, tried: &Tried) -> Opti
     let Tried { input: Input { formula, room }, refusal, written, .. } = tried;
     let wrong = expand_difference(library, random, (&formula.records, formula.atoms), *room, *refusal, written);
     match (wrong, refusal) {
-        (None, Refusal::Accepted) => unsettled(library, random, written, formula.atoms),
+        (None, Accepted) => unsettled(library, random, written, formula.atoms),
         (wrong, _) => wrong,
     }
 }
@@ -323,7 +322,7 @@ fn postorder(formula: &Formula, r: usize, order: &mut Vec<usize>) {
 
 impl Tried {
     fn accepted(&self) -> bool {
-        self.refusal == Refusal::Accepted
+        self.refusal == Accepted
     }
     fn accepted_with(&self, shorthands: bool) -> bool {
         self.accepted() && shorthands != self::shorthands(&self.input.formula).is_empty()
@@ -333,16 +332,10 @@ impl Tried {
         postorder(&self.input.formula, self.input.formula.count() - 1, &mut order);
         order.windows(2).all(|pair| pair[0] < pair[1])
     }
-    fn too_long(&self) -> bool {
-        self.refusal == Refusal::TooLong
-    }
-    fn no_room(&self) -> bool {
-        self.refusal == Refusal::NoRoom
-    }
     /// Whether this is the first refusal of the records, and a shorthand's.
     fn at_shorthand(&self, refusal: Refusal) -> bool {
         let formula = &self.input.formula;
-        let refused = || (0..formula.count()).find(|&r| record_refusal(formula, r) != Refusal::Accepted);
+        let refused = || (0..formula.count()).find(|&r| record_refusal(formula, r) != Accepted);
         self.refusal == refusal && refused().is_some_and(|r| is_shorthand(formula.kind(r)))
     }
     /// Whether a shorthand names a record that is named elsewhere too, all kinds being known.
@@ -362,18 +355,18 @@ const CASES: [Case<Tried>; 19] = [
     ("accepted in exact room", |t| t.accepted() && t.input.room == RECORD_SIZE * t.out),
     ("accepted with 254 records out", |t| t.accepted() && t.out == MOST_RECORDS - 1),
     ("accepted with 255 records out", |t| t.accepted() && t.out == MOST_RECORDS),
-    ("too long with 256 records out", |t| t.too_long() && t.out == MOST_RECORDS + 1),
-    ("too long with 257 records out", |t| t.too_long() && t.out == MOST_RECORDS + 2),
-    ("too long with over 600 records out", |t| t.too_long() && t.out > 600),
-    ("too long with 255 records in", |t| t.too_long() && t.input.formula.count() == MOST_RECORDS),
-    ("too long in room for 255 records", |t| t.too_long() && t.input.room >= MOST_RECORD_BYTES),
-    ("too long in less room", |t| t.too_long() && t.input.room < MOST_RECORD_BYTES),
-    ("no room by one byte", |t| t.no_room() && t.input.room == RECORD_SIZE * t.out - 1),
-    ("no room with 255 records out", |t| t.no_room() && t.out == MOST_RECORDS),
-    ("not zero at a shorthand", |t| t.at_shorthand(Refusal::NotZero)),
-    ("late child at a shorthand", |t| t.at_shorthand(Refusal::LateChild)),
-    ("wrong sort at a shorthand", |t| t.at_shorthand(Refusal::WrongSort)),
-    ("not a tree by an argument of a shorthand", |t| t.refusal == Refusal::NotATree && t.argument_shared()),
+    ("too long with 256 records out", |t| t.refusal == TooLong && t.out == MOST_RECORDS + 1),
+    ("too long with 257 records out", |t| t.refusal == TooLong && t.out == MOST_RECORDS + 2),
+    ("too long with over 600 records out", |t| t.refusal == TooLong && t.out > 600),
+    ("too long with 255 records in", |t| t.refusal == TooLong && t.input.formula.count() == MOST_RECORDS),
+    ("too long in room for 255 records", |t| t.refusal == TooLong && t.input.room >= MOST_RECORD_BYTES),
+    ("too long in less room", |t| t.refusal == TooLong && t.input.room < MOST_RECORD_BYTES),
+    ("no room by one byte", |t| t.refusal == NoRoom && t.input.room == RECORD_SIZE * t.out - 1),
+    ("no room with 255 records out", |t| t.refusal == NoRoom && t.out == MOST_RECORDS),
+    ("not zero at a shorthand", |t| t.at_shorthand(NotZero)),
+    ("late child at a shorthand", |t| t.at_shorthand(LateChild)),
+    ("wrong sort at a shorthand", |t| t.at_shorthand(WrongSort)),
+    ("not a tree by an argument of a shorthand", |t| t.refusal == NotATree && t.argument_shared()),
 ];
 
 fn main() {
@@ -406,7 +399,7 @@ fn main() {
         Some(format!("{what}\n  records {}\n  atoms {}, room for {room} bytes", hex(&formula.records), formula.atoms))
     });
 
-    comparison.tell(100, outcomes(&[Refusal::NoRoom, Refusal::TooLong]));
+    comparison.tell(100, outcomes(&[NoRoom, TooLong]));
     comparison.tell(100, names(&CASES));
     comparison.tell(100, (NOT..=SINCE).map(shorthand_name).collect());
     let pairs = nested_names();

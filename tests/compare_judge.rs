@@ -59,9 +59,9 @@ enum Cause {
 impl Cause {
     fn refusal(self) -> Refusal {
         match self {
-            Cause::Width | Cause::Instants | Cause::CellCount => Refusal::WrongSize,
-            Cause::CellOver2 => Refusal::WrongCell,
-            _ => Refusal::WrongRules,
+            Cause::Width | Cause::Instants | Cause::CellCount => WrongSize,
+            Cause::CellOver2 => WrongCell,
+            _ => WrongRules,
         }
     }
 }
@@ -108,7 +108,7 @@ struct Tried {
 /// Sizes, then rules, then cells; else yes, or the first failure.
 fn tried(input: Input) -> Tried {
     let causes = causes(&input);
-    let order = [Refusal::WrongSize, Refusal::WrongRules, Refusal::WrongCell];
+    let order = [WrongSize, WrongRules, WrongCell];
     let refused = order.into_iter().find(|&refusal| causes.iter().any(|cause| cause.refusal() == refusal));
     let verdict = match refused {
         Some(refusal) => Verdict::Refused(refusal),
@@ -429,11 +429,9 @@ const REFUSED: [Case<Tried>; 13] = [
         t.causes == [Cause::Previous] && found.all(|literal| literal.symbol < SYMBOL_COLUMN)
     }),
     ("wrong cell alone", |t| t.causes == [Cause::CellOver2]),
-    ("wrong size before wrong rules", |t| t.caused(Refusal::WrongSize) && t.caused(Refusal::WrongRules)),
-    ("wrong size before wrong cell", |t| t.caused(Refusal::WrongSize) && t.caused(Refusal::WrongCell)),
-    ("wrong rules before wrong cell", |t| {
-        !t.caused(Refusal::WrongSize) && t.caused(Refusal::WrongRules) && t.caused(Refusal::WrongCell)
-    }),
+    ("wrong size before wrong rules", |t| t.caused(WrongSize) && t.caused(WrongRules)),
+    ("wrong size before wrong cell", |t| t.caused(WrongSize) && t.caused(WrongCell)),
+    ("wrong rules before wrong cell", |t| !t.caused(WrongSize) && t.caused(WrongRules) && t.caused(WrongCell)),
 ];
 
 const JUDGED: [Case<Tried>; 20] = [

@@ -100,7 +100,7 @@ fn goes(formula: &Formula, path: usize, kind: u8) -> bool {
 fn star_faults(formula: &Formula, star: usize) -> Vec<Refusal> {
     let body = formula.a(star);
     let turns = goes(formula, body, STEP) && goes(formula, body, BACK);
-    let found = [(Refusal::StarTurns, turns), (Refusal::StarStands, may_stand_still(formula, body))];
+    let found = [(StarTurns, turns), (StarStands, may_stand_still(formula, body))];
     found.iter().filter(|(_, there)| *there).map(|&(refusal, _)| refusal).collect()
 }
 
@@ -118,16 +118,15 @@ struct Tried {
 fn tried(input: Input) -> Tried {
     let formula = &input.formula;
     let refusal = formula_refusal(formula, false);
-    if refusal != Refusal::Accepted {
+    if refusal != Accepted {
         return Tried { input, refusal, faults: vec![], needed: 0, written: vec![] };
     }
     let stars = formula.of_kind(STAR).into_iter().map(|star| star_faults(formula, star));
     let faults: Vec<Vec<Refusal>> = stars.filter(|faults| !faults.is_empty()).collect();
     let rules = translation(formula);
     let needed = rules.len();
-    let refusal =
-        faults.first().map_or(Refusal::Accepted, |first| first[0]).or(Refusal::NoRoom, || input.room < needed);
-    Tried { input, refusal, faults, needed, written: if refusal == Refusal::Accepted { rules } else { vec![] } }
+    let refusal = faults.first().map_or(Accepted, |first| first[0]).or(NoRoom, || input.room < needed);
+    Tried { input, refusal, faults, needed, written: if refusal == Accepted { rules } else { vec![] } }
 }
 
 // ---- random inputs
@@ -192,7 +191,7 @@ fn difference(library: &mut Library, random: &mut Random, tried: &Tried) -> Opti
 
 impl Tried {
     fn accepted(&self) -> bool {
-        self.refusal == Refusal::Accepted
+        self.refusal == Accepted
     }
     /// Whether the formula is accepted and has a star that is such.
     fn accepted_with(&self, wanted: impl Fn(&Tree, usize) -> bool) -> bool {
@@ -221,11 +220,11 @@ const CASES: [Case<Tried>; 9] = [
         })
     }),
     ("accepted in exact room", |t| t.accepted() && t.input.room == t.needed),
-    ("a star that turns and may stand still", |t| t.first(&[Refusal::StarTurns, Refusal::StarStands])),
-    ("a star that turns before one that stands", |t| t.first(&[Refusal::StarTurns]) && t.later(Refusal::StarStands)),
-    ("a star that stands before one that turns", |t| t.first(&[Refusal::StarStands]) && t.later(Refusal::StarTurns)),
+    ("a star that turns and may stand still", |t| t.first(&[StarTurns, StarStands])),
+    ("a star that turns before one that stands", |t| t.first(&[StarTurns]) && t.later(StarStands)),
+    ("a star that stands before one that turns", |t| t.first(&[StarStands]) && t.later(StarTurns)),
     ("a star's refusal in too little room", |t| !t.faults.is_empty() && t.input.room < t.needed),
-    ("no room by one word", |t| t.refusal == Refusal::NoRoom && t.input.room == t.needed - 1),
+    ("no room by one word", |t| t.refusal == NoRoom && t.input.room == t.needed - 1),
 ];
 
 fn main() {
@@ -253,7 +252,7 @@ fn main() {
         Some(format!("{what}\n  records {}\n  atoms {}, room for {room} words", hex(&formula.records), formula.atoms))
     });
 
-    comparison.tell(100, outcomes(&[Refusal::NoRoom, Refusal::StarStands, Refusal::StarTurns]));
+    comparison.tell(100, outcomes(&[NoRoom, StarStands, StarTurns]));
     comparison.tell(100, names(&CASES));
     comparison.tell(100, kind_names());
     comparison.require(1, (1..=MOST_RECORDS).filter(|&n| n != 2).map(|n| format!("{n} records")));

@@ -195,8 +195,8 @@ fn refusal(input: &Input) -> Refusal {
     let fitting = (1..=MOST_INSTANTS as u64).contains(instants)
         && formula.atoms.checked_mul(*instants) == Some(cells.len() as u64);
     formula_refusal(formula, !fitting)
-        .or(Refusal::WrongCell, || cells.iter().any(|&cell| cell > 2))
-        .or(Refusal::NoRoom, || *room < formula.count() * *instants as usize)
+        .or(WrongCell, || cells.iter().any(|&cell| cell > 2))
+        .or(NoRoom, || *room < formula.count() * *instants as usize)
 }
 
 /// What must come back, and what must then be in the table's first bytes.
@@ -208,7 +208,7 @@ struct Expected {
 
 fn expected(input: &Input) -> Expected {
     let refusal = refusal(input);
-    if refusal != Refusal::Accepted {
+    if refusal != Accepted {
         return Expected { refusal, value: 0, written: vec![] };
     }
     let (given, total) = told(input);
@@ -321,7 +321,7 @@ const SIZES: [Case<Input>; 5] = [
 
 fn count(seen: &mut Seen, input: &Input, expected: &Expected) {
     seen.add(expected.refusal.name());
-    if expected.refusal != Refusal::Accepted {
+    if expected.refusal != Accepted {
         return;
     }
     let (formula, instants) = (&input.formula, input.instants as usize);
@@ -362,7 +362,7 @@ fn main() {
         ))
     });
 
-    comparison.tell(100, outcomes(&[Refusal::WrongCell, Refusal::NoRoom]));
+    comparison.tell(100, outcomes(&[WrongCell, NoRoom]));
     comparison.tell(100, (0..3).map(|value| format!("value {value}")).collect());
     comparison.tell(100, names(&SIZES));
     comparison.tell(100, (0..3).map(|value| format!("value {value} in a table")).collect());

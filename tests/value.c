@@ -64,9 +64,9 @@ static void expect_values(const char *reason, struct bytes records, uint64_t ato
                           struct bytes values)
 {
     size_t needed = records.size / RECORD_SIZE * instants;
-    expect(reason, records, atoms, instants, cells, needed, 0, values);
-    expect(reason, records, atoms, instants, cells, needed + 1, 0, values);
-    expect(reason, records, atoms, instants, cells, needed + 40, 0, values);
+    expect(reason, records, atoms, instants, cells, needed, PASTUREQUILL_ACCEPTED, values);
+    expect(reason, records, atoms, instants, cells, needed + 1, PASTUREQUILL_ACCEPTED, values);
+    expect(reason, records, atoms, instants, cells, needed + 40, PASTUREQUILL_ACCEPTED, values);
 }
 
 static void expect_refused(const char *reason, struct bytes records, uint64_t atoms, uint64_t instants,

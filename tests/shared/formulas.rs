@@ -130,18 +130,18 @@ pub fn children(formula: &Formula, r: usize) -> Vec<usize> {
 /// The first refusal of record r, the records before it having none.
 pub fn record_refusal(formula: &Formula, r: usize) -> Refusal {
     let Some(held) = formula.held(r) else {
-        return Refusal::UnknownKind;
+        return UnknownKind;
     };
     let some = |fault: &dyn Fn(Field, usize) -> bool| held.iter().any(|&(field, v)| fault(field, v));
     let stray = |field, v| field == Field::Nothing && v != 0;
     let late = |field, v| matches!(field, Field::Child(_)) && v >= r;
     let beyond = |field, v| field == Field::AtomNumber && v as u64 >= formula.atoms;
     let mistaken = |field, v| matches!(field, Field::Child(wanted) if sort(formula, v) != wanted);
-    Refusal::Accepted
-        .or(Refusal::NotZero, || formula.byte(r, ZERO) != 0 || some(&stray))
-        .or(Refusal::LateChild, || some(&late))
-        .or(Refusal::NoSuchAtom, || some(&beyond))
-        .or(Refusal::WrongSort, || some(&mistaken))
+    Accepted
+        .or(NotZero, || formula.byte(r, ZERO) != 0 || some(&stray))
+        .or(LateChild, || some(&late))
+        .or(NoSuchAtom, || some(&beyond))
+        .or(WrongSort, || some(&mistaken))
 }
 
 fn wrong_length(formula: &Formula) -> bool {
@@ -159,29 +159,25 @@ fn no_tree(formula: &Formula) -> bool {
 /// The first refusal of the records from the first; then the last record's sort; then the tree. The length is right.
 fn records_refusal(formula: &Formula) -> Refusal {
     let n = formula.count();
-    let refused = (0..n).map(|r| record_refusal(formula, r)).find(|&refusal| refusal != Refusal::Accepted);
-    refused
-        .unwrap_or(Refusal::Accepted)
-        .or(Refusal::WrongSort, || sort(formula, n - 1) == Sort::Path)
-        .or(Refusal::NotATree, || no_tree(formula))
+    let refused = (0..n).map(|r| record_refusal(formula, r)).find(|&refusal| refusal != Accepted);
+    refused.unwrap_or(Accepted).or(WrongSort, || sort(formula, n - 1) == Sort::Path).or(NotATree, || no_tree(formula))
 }
 
 /// Whether the records are a formula's.
 pub fn is_formula(formula: &Formula) -> bool {
-    !wrong_length(formula) && records_refusal(formula) == Refusal::Accepted
+    !wrong_length(formula) && records_refusal(formula) == Accepted
 }
 
 /// What every service asks of a formula: the length; the atoms, and what else `wrong_size` says; the records.
 pub fn formula_refusal(formula: &Formula, wrong_size: bool) -> Refusal {
-    let early = Refusal::Accepted
-        .or(Refusal::WrongLength, || wrong_length(formula))
-        .or(Refusal::WrongSize, || formula.atoms > MOST_ATOMS as u64 || wrong_size);
-    if early == Refusal::Accepted { records_refusal(formula) } else { early }
+    let early = Accepted
+        .or(WrongLength, || wrong_length(formula))
+        .or(WrongSize, || formula.atoms > MOST_ATOMS as u64 || wrong_size);
+    if early == Accepted { records_refusal(formula) } else { early }
 }
 
 /// The names of what a service over records gives back, those of its own after those that all give.
 pub fn outcomes(own: &[Refusal]) -> Vec<String> {
-    use Refusal::*;
     let shared = [Accepted, WrongLength, UnknownKind, NotZero, LateChild, NoSuchAtom, WrongSort, NotATree, WrongSize];
     shared.iter().chain(own).map(|refusal| refusal.name()).collect()
 }

@@ -43,12 +43,14 @@ pub enum Refusal {
     TooLong,
 }
 
+pub use Refusal::*;
+
 impl Refusal {
     pub fn name(self) -> String {
         format!("{self:?}")
     }
     /// This refusal; where the input is accepted so far, the next one if it applies.
     pub fn or(self, next: Refusal, applies: impl FnOnce() -> bool) -> Refusal {
-        if self == Refusal::Accepted && applies() { next } else { self }
+        if self == Accepted && applies() { next } else { self }
     }
 }
