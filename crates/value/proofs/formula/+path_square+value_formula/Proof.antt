@@ -228,20 +228,11 @@ module _ (t : ℕ) where
       ask-first (f-start (f-row c) .pre .1 .0) (modal-first _ (n .0) (n .1)) (c .before .before .field-a .ensures)
 
   -- ---- path_square
-  path-square-kind-at-requires : of-path path-square-lts.Need-kind-at-requires
-  path-square-kind-at-requires c κs = search needs
-
-  path-square-move-square-requires : of-path path-square-lts.Need-move-square-requires
-  path-square-move-square-requires c κs = search needs
-
   path-square-returns : of-path path-square-lts.Need-returns
   path-square-returns c =
       let s = c .before .before .before .before .before .before in
       move-done (s .pre .1 .0) (c .before .before .kind-at .ensures) (s .pre .1 .1) (c .before .if1 .taken)
       (c .move-square .ensures)
-
-  path-square-field-a-requires : of-path path-square-lts.Need-field-a-requires
-  path-square-field-a-requires c κs = search needs
 
   path-square-value-formula-requires : of-path path-square-lts.Need-value-formula-requires
   path-square-value-formula-requires c κs =
@@ -262,9 +253,6 @@ module _ (t : ℕ) where
         omega (arith, c .row-start .ensures, row-room (test-child then .1 .0), v .steady .size),
       )
 
-  path-square-same-length : of-path path-square-lts.Need-same-length
-  path-square-same-length c = search needs
-
   path-square-returns-2 : of-path path-square-lts.Need-returns-2
   path-square-returns-2 c =
       let then = c .before .before .before .before .before .before .before in
@@ -284,9 +272,6 @@ module _ (t : ℕ) where
       let else = p-tested (c .before) in
       let h = tested-formula (c .before) in
       (omega (arith, h .0, part-a else .0, p-start (else .before) .pre .0), h .1)
-
-  path-square-field-b-requires : of-path path-square-lts.Need-field-b-requires
-  path-square-field-b-requires c κs = search needs
 
   path-square-path-square-requires : of-path path-square-lts.Need-path-square-requires
   path-square-path-square-requires c κs =
@@ -312,9 +297,6 @@ module _ (t : ℕ) where
         omega (arith, c .row-start2 .ensures, row-room w, v .steady .size, q .0 .steady .size),
         q .1 .size,
       )
-
-  path-square-same-length-2 : of-path path-square-lts.Need-same-length-2
-  path-square-same-length-2 c = search needs
 
   path-square-returns-3 : of-path path-square-lts.Need-returns-3
   path-square-returns-3 c =
@@ -348,9 +330,6 @@ module _ (t : ℕ) where
         square = c .before .before .before .before .path-square2 .ensures .1;
       }
 
-  path-square-same-length-3 : of-path path-square-lts.Need-same-length-3
-  path-square-same-length-3 c = search needs
-
   path-square-returns-4 : of-path path-square-lts.Need-returns-4
   path-square-returns-4 c =
       let else = c .before .before .before .before .before .before .before .before .before in
@@ -358,9 +337,6 @@ module _ (t : ℕ) where
       let q = c .before .before .before .before .before .path-square2 .ensures in
       star-done (s .pre .1 .0) (else .before .before .before .kind-at .ensures) (s .pre .1 .1)
       (c .before .before .if4 .taken) (else .before .field-a .ensures) (q .0) (q .1) (c .close .ensures)
-
-  path-square-field-b-requires-2 : of-path path-square-lts.Need-field-b-requires-2
-  path-square-field-b-requires-2 c κs = search needs
 
   path-square-path-square-requires-3 : of-path path-square-lts.Need-path-square-requires-3
   path-square-path-square-requires-3 c κs =
@@ -389,9 +365,6 @@ module _ (t : ℕ) where
         square-part (h .0) (next .kind-at3 .ensures) (h .1) y,
       )
 
-  path-square-same-length-4 : of-path path-square-lts.Need-same-length-4
-  path-square-same-length-4 c = search needs
-
   path-square-returns-5 : of-path path-square-lts.Need-returns-5
   path-square-returns-5 c =
       let first = c .before .before .before .before in
@@ -407,21 +380,9 @@ module _ (t : ℕ) where
       (fb .field-b2 .ensures) (x .0) (x .1 .cells) (y .0) (y .1 .cells) (c .join .ensures)
 
   -- ---- value_formula
-  value-formula-kind-at-requires : of-formula value-formula-lts.Need-kind-at-requires
-  value-formula-kind-at-requires c κs = search needs
-
-  value-formula-row-start-requires : of-formula value-formula-lts.Need-row-start-requires
-  value-formula-row-start-requires c κs = search needs
-
-  value-formula-mul-put-constant : of-formula value-formula-lts.Need-mul-put-constant
-  value-formula-mul-put-constant c = search needs
-
   value-formula-put-constant-requires : of-formula value-formula-lts.Need-put-constant-requires
   value-formula-put-constant-requires c κs =
       omega (arith, c .before .before .row-start .ensures, row-room (f-start (c .before .before) .pre .1 .0))
-
-  value-formula-same-length : of-formula value-formula-lts.Need-same-length
-  value-formula-same-length c = search needs
 
   value-formula-returns : of-formula value-formula-lts.Need-returns
   value-formula-returns c =
@@ -429,9 +390,6 @@ module _ (t : ℕ) where
       let s = f-start row in
       constant-done (s .pre .1 .0) (row .before .kind-at .ensures) (s .pre .1 .1) (row .row-start .ensures)
       (c .before .before .before .before .if1 .taken) (c .before .before .put-constant .ensures)
-
-  value-formula-field-a-requires : of-formula value-formula-lts.Need-field-a-requires
-  value-formula-field-a-requires c κs = search needs
 
   value-formula-put-atom-requires : of-formula value-formula-lts.Need-put-atom-requires
   value-formula-put-atom-requires c κs =
@@ -442,9 +400,6 @@ module _ (t : ℕ) where
         atom-low w (sym (row .before .kind-at .ensures) ∙ c .before .if2 .taken) (c .before .before .field-a .ensures),
       )
 
-  value-formula-same-length-2 : of-formula value-formula-lts.Need-same-length-2
-  value-formula-same-length-2 c = search needs
-
   value-formula-returns-2 : of-formula value-formula-lts.Need-returns-2
   value-formula-returns-2 c =
       let row = c .before .before .before .before .before .before .before in
@@ -452,9 +407,6 @@ module _ (t : ℕ) where
       let then = c .before .before .before .before in
       atom-done (s .pre .1 .0) (row .before .kind-at .ensures) (s .pre .1 .1) (row .row-start .ensures)
       (then .if2 .taken) (then .before .field-a .ensures) (c .before .before .put-atom .ensures)
-
-  value-formula-field-b-requires : of-formula value-formula-lts.Need-field-b-requires
-  value-formula-field-b-requires c κs = search needs
 
   value-formula-value-formula-requires : of-formula value-formula-lts.Need-value-formula-requires
   value-formula-value-formula-requires c κs =
@@ -487,9 +439,6 @@ module _ (t : ℕ) where
       let own = row .row-start .ensures in
       (omega arith, omega (arith, c .row-start2 .ensures), s .pre .1 .0 .legal .trace .few)
 
-  value-formula-same-length-3 : of-formula value-formula-lts.Need-same-length-3
-  value-formula-same-length-3 c = search needs
-
   value-formula-returns-3 : of-formula value-formula-lts.Need-returns-3
   value-formula-returns-3 c =
       let second = c .before .before .before in
@@ -503,55 +452,51 @@ module _ (t : ℕ) where
       (fb .field-b .ensures) (second .row-start2 .ensures) v (x .0) (x .1) (c .before .before .put-modal .ensures)
 
 pub +path-square+value-formula-spec : {M : Type 1} → statement M
-+path-square+value-formula-spec = close μ-path-square μ-value-formula (λ t. path-square-lts.spec (path-square-claims t)
-    (path-square-at t)
-    path-square.Post
-    (path-square-kind-at-requires t)
-    (path-square-move-square-requires t)
++path-square+value-formula-spec = close μ-path-square μ-value-formula (λ t. path-square-lts.spec _ _ _
+    (λ c κs. search needs)
+    (λ c κs. search needs)
     (path-square-returns t)
-    (path-square-field-a-requires t)
+    (λ c κs. search needs)
     (path-square-value-formula-requires t)
     (path-square-row-start-requires t)
     (path-square-test-square-requires t)
-    (path-square-same-length t)
+    (λ c. search needs)
     (path-square-returns-2 t)
     (path-square-begins-with-test-requires t)
     (path-square-field-a-requires-2 t)
     (path-square-value-formula-requires-2 t)
-    (path-square-field-b-requires t)
+    (λ c κs. search needs)
     (path-square-path-square-requires t)
     (path-square-row-start-requires-2 t)
     (path-square-cap-requires t)
-    (path-square-same-length-2 t)
+    (λ c. search needs)
     (path-square-returns-3 t)
     (path-square-path-square-requires-2 t)
     (path-square-close-requires t)
-    (path-square-same-length-3 t)
+    (λ c. search needs)
     (path-square-returns-4 t)
-    (path-square-field-b-requires-2 t)
+    (λ c κs. search needs)
     (path-square-path-square-requires-3 t)
     (path-square-kind-at-requires-2 t)
     (path-square-kind-at-requires-3 t)
     (path-square-join-requires t)
-    (path-square-same-length-4 t)
+    (λ c. search needs)
     (path-square-returns-5 t))
-    λ t. value-formula-lts.spec (value-formula-claims t)
-    (value-formula-at t)
-    value-formula.Post
-    (value-formula-kind-at-requires t)
-    (value-formula-row-start-requires t)
-    (value-formula-mul-put-constant t)
+    λ t. value-formula-lts.spec _ _ _
+    (λ c κs. search needs)
+    (λ c κs. search needs)
+    (λ c. search needs)
     (value-formula-put-constant-requires t)
-    (value-formula-same-length t)
+    (λ c. search needs)
     (value-formula-returns t)
-    (value-formula-field-a-requires t)
+    (λ c κs. search needs)
     (value-formula-put-atom-requires t)
-    (value-formula-same-length-2 t)
+    (λ c. search needs)
     (value-formula-returns-2 t)
-    (value-formula-field-b-requires t)
+    (λ c κs. search needs)
     (value-formula-value-formula-requires t)
     (value-formula-path-square-requires t)
     (value-formula-row-start-requires-2 t)
     (value-formula-put-modal-requires t)
-    (value-formula-same-length-3 t)
+    (λ c. search needs)
     (value-formula-returns-3 t)
