@@ -13,18 +13,18 @@ use Rattle.meaning.specs.Value.{Row, Square, testSquare, sequenceSquare}
 use Rattle.meaning.proofs.Bounds.{le-above}
 use Rattle.meaning.proofs.Fails.{and-holds}
 use Rattle.meaning.proofs.Reach.{only-there, value-there, there-bound, sequence-elim, sequence-intro}
-use Rattle.records.proofs.Held.{test-first, path-first}
 use Rattle.squares.specs.Cells.{at, rowAt, Holds, capped, joinOf}
 use Rattle.value.specs.Valuing.{Under, Asked, Valued, Squared}
 use Rattle.squares.proofs.Same.{Agree, holds-same}
-use Rattle.value.proofs.Children.{ask-first}
+use Rattle.value.proofs.Children.{AskedAs, Tested, part-first, tested-formula}
 use Rattle.value.proofs.Recursion.{test-valued, test-agrees, join-done}
 
--- What the question for such a sequence says: x is its kind, y its first part's.
-pub begins : {x y : ℕ} {b : Bool} → b ≡ (eqb x 9 && eqb y 7) → b ≡ true → (x ≡ 9) × (y ≡ 7)
-begins {x} {y} e t =
-    let (f, g) = and-holds (eqb x 9) (eqb y 7) .0 (sym e ∙ t) in
-    (eqb-true x 9 f, eqb-true y 7 g)
+-- What the question for such a sequence says.
+pub begins : {s : List ℕ} {r n a : ℕ} {b : Bool} → a ≡ fieldA s r → b ≡ (eqb n 9 && eqb (kindByte s a) 7) → b ≡ true
+    → Tested s r n a
+begins {s} {r} {n} {a} fa e t =
+    let (f, g) = and-holds (eqb n 9) (eqb (kindByte s a) 7) .0 (sym e ∙ t) in
+    record { first = fa; sequence = eqb-true n 9 f; test = eqb-true (kindByte s a) 7 g }
 
 -- ---- values
 capped-sequence : (L : ℕ) (f : Row) (q : Square) → Agree L (capped f q) (sequenceSquare L (testSquare f) q)
@@ -36,19 +36,18 @@ capped-sequence L f q k j h l =
     let (i, il, x, y) = sequence-elim L (testSquare f) q k j v z a in
     le-min (subst (λ i. v ≤ q i j) (only-there i k (f k) (le-trans z x)) y) (le-trans x (there-bound i k (f k)))))
 
-module _ {s : List ℕ} {A L : ℕ} {cells : List ℕ} {r n : ℕ} {t : List ℕ} (w : Asked s A L cells r t)
-    (num : n ≡ kindByte s r) (p : sortOf (kindAt s r) ≡ path) where
-  pub tested-done : {a b f start : ℕ} {y new t₁ t₂ : List ℕ} → n ≡ 9 → a ≡ fieldA s r → kindByte s a ≡ 7
-      → f ≡ fieldA s a → b ≡ fieldB s r → start ≡ f * L
+module _ {s : List ℕ} {A L : ℕ} {cells : List ℕ} {r n : ℕ} {t : List ℕ}
+    (w : AskedAs s A L cells r t path) (num : n ≡ kindByte s r) where
+  pub tested-done : {a b f start : ℕ} {y new t₁ t₂ : List ℕ} → Tested s r n a → f ≡ fieldA s a → b ≡ fieldB s r → start ≡ f * L
       → Valued s A L cells f t t₁ → Valued s A L cells b t₁ t₂ → Squared s A L cells b y
       → Holds L new (capped (rowAt t₂ start) (at y)) → Valued s A L cells r t t₂ × Squared s A L cells r new
   unfolding joinOf
-  tested-done {a} {b} {f} {start} {y} {new} {t₁} {t₂} e fa seven ff fb fs v₁ v₂ q h =
-      let ha = ask-first w (path-first (kindByte s r) (omega arith) (omega arith)) fa in
-      let hf = ask-first (ha .1 .0) (test-first (kindByte s a) seven) ff in
+  tested-done {a} {b} {f} {start} {y} {new} {t₁} {t₂} e ff fb fs v₁ v₂ q h =
+      let ha = part-first (refl, w) num (omega arith) (e .first) in
+      let hf = tested-formula (refl, w) num e ff in
       let right = v₂ .steady .right f (v₁ .rows f Under.itself (hf .1 .1)) in
-      join-done w num p (omega arith) (omega arith) fa fb
-      (test-valued (ha .1 .0) refl (ha .1 .1) seven ff v₁)
-      (test-agrees (ha .1 .0) refl (ha .1 .1) seven ff fs right)
+      join-done w num (omega arith) (λ d. omega arith) (e .first) fb
+      (test-valued (ha .1) refl (e .test) ff v₁)
+      (test-agrees (ha .1) refl (e .test) ff fs right)
       v₂ (q .cells)
-      (holds-same h (rw e (capped-sequence L (rowAt t₂ start) (at y))))
+      (holds-same h (rw (e .sequence) (capped-sequence L (rowAt t₂ start) (at y))))

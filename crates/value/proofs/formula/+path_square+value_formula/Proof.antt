@@ -1,38 +1,36 @@
 -- `path_square` and `value_formula`, which call each other, meet their contracts. The measure of either is the number
 -- of its record, and a child is earlier, so each call is below its caller's measure. Each branch is a kind: its
 -- children are asked, and what comes back is put together by the law for that kind.
-use mathlib.Core.Path.{_≡_, sym, _∙_}
+use mathlib.Core.Path.{refl, sym, _∙_}
 use native.Mathlib.Omega.{arith}
-use Rattle.meaning.specs.Record.{kindByte, Sort, formula, path}
-use Rattle.records.proofs.Numbers.{path-number, formula-number}
 use Rattle.value.proofs.Table.{row-end}
-use Rattle.value.proofs.Children.{Child, ask-first, ask-second, ask-along, row-room, atom-low}
-use Rattle.records.proofs.Held.{test-first, path-first, join-second, modal-first, modal-second}
+use Rattle.value.proofs.Children.{test-formula, tested-formula, tested-path, part-first, part-second, modal-path, modal-formula}
+use Rattle.value.proofs.Children.{child-along, row-low, row-within, atom-low}
 use Rattle.value.proofs.Recursion.{square-part, move-done, test-done, star-done, join-done}
 use Rattle.value.proofs.Recursion.{constant-done, atom-done, modal-done}
 use Rattle.value.proofs.Tested.{begins, tested-done}
 use borrow.Author.Needs.{needs}
-use Prim.Native.Nat.{ℕ, _<_, _≤_}
+use Prim.Native.Nat.{ℕ}
 use borrow.Fn.Kinds.{In, Out}
-use borrow.Fn.PlainCycle.{Measures, is, falls, and}
+use borrow.Fn.PlainCycle.{Measures}
 use Rattle.value.proofs.formula.path_square.Reads as path-square
 use Rattle.value.proofs.formula.path_square.Kinds as path-square-kinds
 use Rattle.value.proofs.formula.+path_square+value_formula.Lts-path_square as path-square-lts
 use Rattle.value.proofs.formula.value_formula.Reads as value-formula
 use Rattle.value.proofs.formula.value_formula.Kinds as value-formula-kinds
 use Rattle.value.proofs.formula.+path_square+value_formula.Lts-value_formula as value-formula-lts
-use Rattle.records.proofs.layout.field_a.Reads as field-a-reads
-use Rattle.records.proofs.layout.field_b.Reads as field-b-reads
-use Rattle.records.proofs.layout.kind_at.Reads as kind-at-reads
-use Rattle.value.proofs.row.put_atom.Reads as put-atom-reads
-use Rattle.value.proofs.row.put_constant.Reads as put-constant-reads
-use Rattle.value.proofs.row.put_modal.Reads as put-modal-reads
-use Rattle.value.proofs.row.row_start.Reads as row-start-reads
-use Rattle.value.proofs.formula.begins_with_test.Reads as begins-with-test-reads
-use Rattle.squares.proofs.square.cap.Reads as cap-reads
-use Rattle.squares.proofs.square.join.Reads as join-reads
-use Rattle.squares.proofs.square.move_square.Reads as move-square-reads
-use Rattle.squares.proofs.square.test_square.Reads as test-square-reads
+use Rattle.records.proofs.layout.field_a.Reads as field-a
+use Rattle.records.proofs.layout.field_b.Reads as field-b
+use Rattle.records.proofs.layout.kind_at.Reads as kind-at
+use Rattle.value.proofs.row.put_atom.Reads as put-atom
+use Rattle.value.proofs.row.put_constant.Reads as put-constant
+use Rattle.value.proofs.row.put_modal.Reads as put-modal
+use Rattle.value.proofs.row.row_start.Reads as row-start
+use Rattle.value.proofs.formula.begins_with_test.Reads as begins-with-test
+use Rattle.squares.proofs.square.cap.Reads as cap
+use Rattle.squares.proofs.square.join.Reads as join
+use Rattle.squares.proofs.square.move_square.Reads as move-square
+use Rattle.squares.proofs.square.test_square.Reads as test-square
 use Rattle.value.proofs.formula.close.Reads as close-reads
 use Rattle.value.proofs.formula.+path_square+value_formula.{statement}
 use Rattle.value.proofs.formula.+path_square+value_formula.Tie.{close}
@@ -43,460 +41,274 @@ abbrev μ-path-square : Measures 3 path-square-kinds.ps ℕ
 abbrev μ-value-formula : Measures 3 value-formula-kinds.ps ℕ
 μ-value-formula κs a = a .1 .1 .1 .1 .0
 
-abbrev path-square-at : ℕ → In 3 path-square-kinds.ps
-path-square-at t =
-    and 3 path-square-kinds.ps (is 3 path-square-kinds.ps μ-path-square t) path-square.Pre
+-- ---- places of path_square
+module _ {C : path-square-lts.Claims} {P : In 3 path-square-kinds.ps} {Q : Out 3 path-square-kinds.ps path-square-kinds.r} where
+  abbrev kind : path-square-lts.After-field-a C P Q → path-square-lts.After-kind-at C P Q
+  kind a = a .before .before
 
-abbrev path-square-below : ℕ → In 3 path-square-kinds.ps
-path-square-below t =
-    and 3 path-square-kinds.ps (falls 3 path-square-kinds.ps _<_ μ-path-square t) path-square.Pre
+  abbrev start : path-square-lts.After-field-a C P Q → path-square-lts.Start C P Q
+  start a = kind a .before .before .before .before
 
-abbrev value-formula-at : ℕ → In 3 value-formula-kinds.ps
-value-formula-at t =
-    and 3 value-formula-kinds.ps (is 3 value-formula-kinds.ps μ-value-formula t) value-formula.Pre
+  -- In a sequence that begins with a test: the first part, the test's value, the second part's square.
+  abbrev test : path-square-lts.After-field-a2 C P Q → path-square-lts.After-field-a C P Q
+  test f = f .before .before .before .before
 
-abbrev value-formula-below : ℕ → In 3 value-formula-kinds.ps
-value-formula-below t =
-    and
-    3
-    value-formula-kinds.ps
-    (falls 3 value-formula-kinds.ps _<_ μ-value-formula t)
-    value-formula.Pre
+  abbrev tested : path-square-lts.After-field-b C P Q → path-square-lts.After-value-formula2 C P Q
+  tested b = b .before .before .before
 
-abbrev path-square-claims : ℕ → path-square-lts.Claims
-path-square-claims t = (
-  kind-at-reads.Asked,
-  kind-at-reads.Learnt,
-  move-square-reads.Asked,
-  move-square-reads.Learnt,
-  field-a-reads.Asked,
-  field-a-reads.Learnt,
-  value-formula-below t,
-  value-formula.Post,
-  row-start-reads.Asked,
-  row-start-reads.Learnt,
-  test-square-reads.Asked,
-  test-square-reads.Learnt,
-  begins-with-test-reads.Asked,
-  begins-with-test-reads.Learnt,
-  field-b-reads.Asked,
-  field-b-reads.Learnt,
-  path-square-below t,
-  path-square.Post,
-  cap-reads.Asked,
-  cap-reads.Learnt,
-  close-reads.Asked,
-  close-reads.Learnt,
-  join-reads.Asked,
-  join-reads.Learnt,
-)
+  abbrev capped : path-square-lts.After-cap-arg C P Q → path-square-lts.After-path-square C P Q
+  capped c = c .before .before .before .before
 
-abbrev value-formula-claims : ℕ → value-formula-lts.Claims
-value-formula-claims t = (
-  kind-at-reads.Asked,
-  kind-at-reads.Learnt,
-  row-start-reads.Asked,
-  row-start-reads.Learnt,
-  put-constant-reads.Asked,
-  put-constant-reads.Learnt,
-  field-a-reads.Asked,
-  field-a-reads.Learnt,
-  put-atom-reads.Asked,
-  put-atom-reads.Learnt,
-  field-b-reads.Asked,
-  field-b-reads.Learnt,
-  value-formula-below t,
-  value-formula.Post,
-  path-square-below t,
-  path-square.Post,
-  put-modal-reads.Asked,
-  put-modal-reads.Learnt,
-)
+  -- In another sequence, a choice or a star: from the first part's square to what is no test.
+  abbrev whole : path-square-lts.After-slice-known5 C P Q → path-square-lts.Else2 C P Q
+  whole c = c .before .before .before .before .before .before
 
-module _ (t : ℕ) where
-  -- ---- places of path_square
-  abbrev of-path : (path-square-lts.Claims → In 3 path-square-kinds.ps
-      → Out 3 path-square-kinds.ps path-square-kinds.r → Type 0) → Type 0
-  of-path X = X (path-square-claims t) (path-square-at t) path-square.Post
+  -- From the second part's square to its field.
+  abbrev other : path-square-lts.After-slice-known6 C P Q → path-square-lts.After-field-b2 C P Q
+  other c = c .before .before .before .before
 
-  abbrev p-start : of-path path-square-lts.After-field-a → of-path path-square-lts.Start
-  p-start c = c .before .before .before .before .before .before
+-- ---- places of value_formula
+module _ {C : value-formula-lts.Claims} {P : In 3 value-formula-kinds.ps}
+    {Q : Out 3 value-formula-kinds.ps value-formula-kinds.r} where
+  abbrev row : value-formula-lts.After-field-a C P Q → value-formula-lts.After-row-start C P Q
+  row a = a .before .before
 
-  abbrev P-child : of-path path-square-lts.Start → ℕ → Sort → Type 0
-  P-child s q = let x = s .args in Child (x .records .now) (x .atoms) (x .l) (x .cells .now) (x .p) q (x .table .now)
+  abbrev begin : value-formula-lts.After-row-start C P Q → value-formula-lts.Start C P Q
+  begin c = c .before .before .before .before .before
 
-  -- The formula of a test.
-  test-child : (c : of-path path-square-lts.Then2) → P-child (p-start (c .before)) (c .before .field-a .result) formula
-  test-child c =
-      ask-first (p-start (c .before) .pre .1 .0)
-      (test-first _ (sym (c .before .before .before .kind-at .ensures) ∙ c .if2 .taken)) (c .before .field-a .ensures)
+  -- In a diamond or a box: from its formula's values, or from its path's square, to the second field.
+  abbrev goal : value-formula-lts.After-path-square-arg C P Q → value-formula-lts.After-field-b C P Q
+  goal c = c .before .before .before .before .before
 
-  -- The kind of a choice, a sequence or a star.
-  eight : (c : of-path path-square-lts.Else2)
-      → let x = p-start (c .before) .args in
-      (8 ≤ kindByte (x .records .now) (x .p)) × (kindByte (x .records .now) (x .p) < 11)
-  eight c =
-      let s = p-start (c .before) in
-      let n = path-number (s .pre .1 .0 .legal .formed) (s .args .p) (s .pre .1 .0 .index) (s .pre .1 .1) in
-      let seven = c .before .before .if1 .left in
-      let other = c .if2 .left in
-      (omega (arith, c .before .before .before .kind-at .ensures), n .1)
-
-  -- Its first part.
-  part-a : (c : of-path path-square-lts.Else2) → P-child (p-start (c .before)) (c .before .field-a .result) path
-  part-a c =
-      let n = eight c in
-      ask-first (p-start (c .before) .pre .1 .0) (path-first _ (n .0) (n .1)) (c .before .field-a .ensures)
-
-  -- A sequence that begins with a test: its kind and its first part's, the test's formula, and its second part.
-  abbrev p-tested : of-path path-square-lts.After-field-a2 → of-path path-square-lts.Else2
-  p-tested c = c .before .before .before
-
-  test-begins : (c : of-path path-square-lts.After-field-a2)
-      → (p-tested c .before .before .before .kind-at .result ≡ 9)
-      × (kindByte (p-start (p-tested c .before) .args .records .now) (p-tested c .before .field-a .result) ≡ 7)
-  test-begins c = begins (c .before .before .begins-with-test .ensures) (c .before .if3 .taken)
-
-  tested-formula : (c : of-path path-square-lts.After-field-a2)
-      → let x = p-start (p-tested c .before) .args in
-      Child (x .records .now) (x .atoms) (x .l) (x .cells .now) (p-tested c .before .field-a .result) (c .field-a2 .result)
-      (x .table .now) formula
-  tested-formula c =
-      ask-first (part-a (p-tested c) .1 .0) (test-first _ (test-begins c .1)) (c .field-a2 .ensures)
-
-  abbrev p-tests : of-path path-square-lts.After-field-b → of-path path-square-lts.After-field-a2
-  p-tests c = c .before .before .before .before .before
-
-  tested-path : (c : of-path path-square-lts.After-field-b)
-      → P-child (p-start (p-tested (p-tests c) .before)) (c .field-b .result) path
-  tested-path c =
-      let else = p-tested (p-tests c) in
-      let nine = test-begins (p-tests c) .0 in
-      let num = else .before .before .before .kind-at .ensures in
-      ask-second (p-start (else .before) .pre .1 .0) (join-second _ (omega arith) (omega arith)) (c .field-b .ensures)
-
-  abbrev p-else : of-path path-square-lts.After-field-b2 → of-path path-square-lts.Else2
-  p-else c = c .before .before .before .before .before .before .before .before
-
-  -- The second part of a choice or of another sequence.
-  part-b : (c : of-path path-square-lts.After-field-b2) → P-child (p-start (p-else c .before)) (c .field-b2 .result) path
-  part-b c =
-      let else = p-else c in
-      let x = p-start (else .before) .args in
-      let ten = c .before .if4 .left in
-      let n = eight else in
-      let num = else .before .before .before .kind-at .ensures in
-      let less : kindByte (x .records .now) (x .p) < 10 = omega arith in
-      ask-second (p-start (else .before) .pre .1 .0) (join-second _ (n .0) less) (c .field-b2 .ensures)
-
-  -- ---- places of value_formula
-  abbrev of-formula : (value-formula-lts.Claims → In 3 value-formula-kinds.ps
-      → Out 3 value-formula-kinds.ps value-formula-kinds.r → Type 0) → Type 0
-  of-formula X = X (value-formula-claims t) (value-formula-at t) value-formula.Post
-
-  abbrev f-start : of-formula value-formula-lts.After-row-start → of-formula value-formula-lts.Start
-  f-start c = c .before .before .before .before .before
-
-  abbrev F-child : of-formula value-formula-lts.Start → ℕ → Sort → Type 0
-  F-child s q = let x = s .args in Child (x .records .now) (x .atoms) (x .l) (x .cells .now) (x .r) q (x .table .now)
-
-  -- The kind of a diamond or a box.
-  three : (c : of-formula value-formula-lts.Else2)
-      → let x = f-start (c .before .before .before) .args in
-      (3 ≤ kindByte (x .records .now) (x .r)) × (kindByte (x .records .now) (x .r) < 5)
-  three c =
-      let s = f-start (c .before .before .before) in
-      let n = formula-number (s .pre .1 .0 .legal .formed) (s .args .r) (s .pre .1 .0 .index) (s .pre .1 .1) in
-      let two = c .before .before .if1 .left in
-      let other = c .if2 .left in
-      (omega (arith, c .before .before .before .before .kind-at .ensures), n)
-
-  abbrev f-row : of-formula value-formula-lts.After-field-b → of-formula value-formula-lts.After-row-start
-  f-row c = c .before .before .before .before
-
-  -- Its formula, and its path.
-  goal-child : (c : of-formula value-formula-lts.After-field-b)
-      → F-child (f-start (f-row c)) (c .field-b .result) formula
-  goal-child c =
-      let n = three (c .before) in
-      ask-second (f-start (f-row c) .pre .1 .0) (modal-second _ (n .0) (n .1)) (c .field-b .ensures)
-
-  path-child : (c : of-formula value-formula-lts.After-field-b)
-      → F-child (f-start (f-row c)) (c .before .before .field-a .result) path
-  path-child c =
-      let n = three (c .before) in
-      ask-first (f-start (f-row c) .pre .1 .0) (modal-first _ (n .0) (n .1)) (c .before .before .field-a .ensures)
-
-  -- ---- path_square
-  path-square-returns : of-path path-square-lts.Need-returns
-  path-square-returns c =
-      let s = c .before .before .before .before .before .before in
-      move-done (s .pre .1 .0) (c .before .before .kind-at .ensures) (s .pre .1 .1) (c .before .if1 .taken)
-      (c .move-square .ensures)
-
-  path-square-value-formula-requires : of-path path-square-lts.Need-value-formula-requires
-  path-square-value-formula-requires c κs =
-      let h = test-child (c .before) in
-      (omega (arith, p-start (c .before .before) .pre .0), h .1)
-
-  path-square-row-start-requires : of-path path-square-lts.Need-row-start-requires
-  path-square-row-start-requires c κs =
-      let then = c .before .before .before .before .before in
-      let w = p-start (then .before) .pre .1 .0 in
-      omega (arith, test-child then .0, w .index, w .legal .formed .few, w .legal .trace .few)
-
-  path-square-test-square-requires : of-path path-square-lts.Need-test-square-requires
-  path-square-test-square-requires c κs =
-      let then = c .before .before .before .before .before .before in
-      let v = c .before .before .before .before .value-formula .ensures in (
-        p-start (then .before) .pre .1 .0 .legal .trace .few,
-        omega (arith, c .row-start .ensures, row-room (test-child then .1 .0), v .steady .size),
-      )
-
-  path-square-returns-2 : of-path path-square-lts.Need-returns-2
-  path-square-returns-2 c =
-      let then = c .before .before .before .before .before .before .before in
-      let s = p-start (then .before) in
-      let v = c .before .before .before .before .before .value-formula .ensures in
-      test-done (s .pre .1 .0) (then .before .before .before .kind-at .ensures) (s .pre .1 .1) (then .if2 .taken)
-      (then .before .field-a .ensures) (c .before .row-start .ensures) v (c .test-square .ensures)
-
-  path-square-begins-with-test-requires : of-path path-square-lts.Need-begins-with-test-requires
-  path-square-begins-with-test-requires c κs = part-a c .1 .0 .index
-
-  path-square-field-a-requires-2 : of-path path-square-lts.Need-field-a-requires-2
-  path-square-field-a-requires-2 c κs = part-a (c .before .before) .1 .0 .index
-
-  path-square-value-formula-requires-2 : of-path path-square-lts.Need-value-formula-requires-2
-  path-square-value-formula-requires-2 c κs =
-      let else = p-tested (c .before) in
-      let h = tested-formula (c .before) in
-      (omega (arith, h .0, part-a else .0, p-start (else .before) .pre .0), h .1)
-
-  path-square-path-square-requires : of-path path-square-lts.Need-path-square-requires
-  path-square-path-square-requires c κs =
-      let v = c .before .before .before .before .value-formula2 .ensures in
-      let h = tested-path (c .before) in (
-        omega (arith, p-start (p-tested (p-tests (c .before)) .before) .pre .0),
-        (ask-along (h .1 .0) (v .steady .size), h .1 .1),
-      )
-
-  path-square-row-start-requires-2 : of-path path-square-lts.Need-row-start-requires-2
-  path-square-row-start-requires-2 c κs =
-      let w = tested-formula (p-tests (c .before .before .before .before .before .before)) .1 .0 in
-      omega (arith, w .index, w .legal .formed .few, w .legal .trace .few)
-
-  path-square-cap-requires : of-path path-square-lts.Need-cap-requires
-  path-square-cap-requires c κs =
-      let on = c .before .before .before .before .before in
-      let fb = on .before .before in
-      let w = tested-formula (p-tests fb) .1 .0 in
-      let v = fb .before .before .before .value-formula2 .ensures in
-      let q = on .path-square .ensures in (
-        w .legal .trace .few,
-        omega (arith, c .row-start2 .ensures, row-room w, v .steady .size, q .0 .steady .size),
-        q .1 .size,
-      )
-
-  path-square-returns-3 : of-path path-square-lts.Need-returns-3
-  path-square-returns-3 c =
-      let on = c .before .before .before .before .before .before in
-      let fb = on .before .before in
-      let two = test-begins (p-tests fb) in
-      let else = p-tested (p-tests fb) in
-      let s = p-start (else .before) in
-      let q = on .path-square .ensures in
-      tested-done (s .pre .1 .0) (else .before .before .before .kind-at .ensures) (s .pre .1 .1) (two .0)
-      (else .before .field-a .ensures) (two .1) (p-tests fb .field-a2 .ensures) (fb .field-b .ensures)
-      (c .before .row-start2 .ensures) (fb .before .before .before .value-formula2 .ensures) (q .0) (q .1)
-      (c .cap .ensures)
-
-  path-square-path-square-requires-2 : of-path path-square-lts.Need-path-square-requires-2
-  path-square-path-square-requires-2 c κs =
-      let else = c .before .before .before in
-      let h = part-a else in
-      (omega (arith, p-start (else .before) .pre .0), h .1)
-
-  path-square-close-requires : of-path path-square-lts.Need-close-requires
-  path-square-close-requires c κs =
-      let else = c .before .before .before .before .before .before .before .before in
-      let h = part-a else .1 in
-      record {
-        atoms = _;
-        cells = _;
-        table = _;
-        asked = h .0;
-        sort = h .1;
-        square = c .before .before .before .before .path-square2 .ensures .1;
-      }
-
-  path-square-returns-4 : of-path path-square-lts.Need-returns-4
-  path-square-returns-4 c =
-      let else = c .before .before .before .before .before .before .before .before .before in
-      let s = p-start (else .before) in
-      let q = c .before .before .before .before .before .path-square2 .ensures in
-      star-done (s .pre .1 .0) (else .before .before .before .kind-at .ensures) (s .pre .1 .1)
-      (c .before .before .if4 .taken) (else .before .field-a .ensures) (q .0) (q .1) (c .close .ensures)
-
-  path-square-path-square-requires-3 : of-path path-square-lts.Need-path-square-requires-3
-  path-square-path-square-requires-3 c κs =
-      let v = c .before .before .before .before .before .path-square2 .ensures .0 in
-      let h = part-b (c .before) in
-      (omega (arith, p-start (p-else (c .before) .before) .pre .0), (ask-along (h .1 .0) (v .steady .size), h .1 .1))
-
-  path-square-kind-at-requires-2 : of-path path-square-lts.Need-kind-at-requires-2
-  path-square-kind-at-requires-2 c κs = part-a (p-else (c .before .before .before .before)) .1 .0 .index
-
-  path-square-kind-at-requires-3 : of-path path-square-lts.Need-kind-at-requires-3
-  path-square-kind-at-requires-3 c κs = part-b (c .before .before .before .before .before) .1 .0 .index
-
-  path-square-join-requires : of-path path-square-lts.Need-join-requires
-  path-square-join-requires c κs =
-      let next = c .before .before in
-      let first = next .before in
-      let fb = first .before .before .before .before .before in
-      let g = part-a (p-else fb) .1 in
-      let h = part-b fb .1 in
-      let x = fb .before .before .before .before .path-square2 .ensures .1 in
-      let y = first .before .before .before .path-square3 .ensures .1 in (
-        g .0 .legal .trace .few,
-        x .size,
-        square-part (g .0) (first .kind-at2 .ensures) (g .1) x,
-        square-part (h .0) (next .kind-at3 .ensures) (h .1) y,
-      )
-
-  path-square-returns-5 : of-path path-square-lts.Need-returns-5
-  path-square-returns-5 c =
-      let first = c .before .before .before .before in
-      let fb = first .before .before .before .before .before in
-      let else = p-else fb in
-      let s = p-start (else .before) in
-      let n = eight else in
-      let num = else .before .before .before .kind-at .ensures in
-      let ten = fb .before .if4 .left in
-      let x = fb .before .before .before .before .path-square2 .ensures in
-      let y = first .before .before .before .path-square3 .ensures in
-      join-done (s .pre .1 .0) num (s .pre .1 .1) (omega arith) (omega arith) (else .before .field-a .ensures)
-      (fb .field-b2 .ensures) (x .0) (x .1 .cells) (y .0) (y .1 .cells) (c .join .ensures)
-
-  -- ---- value_formula
-  value-formula-put-constant-requires : of-formula value-formula-lts.Need-put-constant-requires
-  value-formula-put-constant-requires c κs =
-      omega (arith, c .before .before .row-start .ensures, row-room (f-start (c .before .before) .pre .1 .0))
-
-  value-formula-returns : of-formula value-formula-lts.Need-returns
-  value-formula-returns c =
-      let row = c .before .before .before .before .before in
-      let s = f-start row in
-      constant-done (s .pre .1 .0) (row .before .kind-at .ensures) (s .pre .1 .1) (row .row-start .ensures)
-      (c .before .before .before .before .if1 .taken) (c .before .before .put-constant .ensures)
-
-  value-formula-put-atom-requires : of-formula value-formula-lts.Need-put-atom-requires
-  value-formula-put-atom-requires c κs =
-      let row = c .before .before .before .before in
-      let w = f-start row .pre .1 .0 in (
-        omega (arith, row .row-start .ensures, row-room w),
-        w .legal .trace .size,
-        atom-low w (sym (row .before .kind-at .ensures) ∙ c .before .if2 .taken) (c .before .before .field-a .ensures),
-      )
-
-  value-formula-returns-2 : of-formula value-formula-lts.Need-returns-2
-  value-formula-returns-2 c =
-      let row = c .before .before .before .before .before .before .before in
-      let s = f-start row in
-      let then = c .before .before .before .before in
-      atom-done (s .pre .1 .0) (row .before .kind-at .ensures) (s .pre .1 .1) (row .row-start .ensures)
-      (then .if2 .taken) (then .before .field-a .ensures) (c .before .before .put-atom .ensures)
-
-  value-formula-value-formula-requires : of-formula value-formula-lts.Need-value-formula-requires
-  value-formula-value-formula-requires c κs =
-      let h = goal-child (c .before) in
-      (omega (arith, f-start (f-row (c .before)) .pre .0), h .1)
-
-  value-formula-path-square-requires : of-formula value-formula-lts.Need-path-square-requires
-  value-formula-path-square-requires c κs =
-      let fb = c .before .before .before .before .before in
-      let v = c .before .before .before .value-formula .ensures in
-      let h = path-child fb in
-      (omega (arith, f-start (f-row fb) .pre .0), (ask-along (h .1 .0) (v .steady .size), h .1 .1))
-
-  value-formula-row-start-requires-2 : of-formula value-formula-lts.Need-row-start-requires-2
-  value-formula-row-start-requires-2 c κs =
-      let fb = c .before .before .before .before .before .before .before .before .before .before in
-      let w = f-start (f-row fb) .pre .1 .0 in
-      omega (arith, goal-child fb .0, w .index, w .legal .formed .few, w .legal .trace .few)
-
-  value-formula-put-modal-requires : of-formula value-formula-lts.Need-put-modal-requires
-  value-formula-put-modal-requires c κs =
-      let fb = c .before .before .before .before .before .before .before .before .before .before .before in
-      let row = f-row fb in
-      let s = f-start row in
-      let v = c .before .before .before .before .before .before .before .before .before .value-formula .ensures in
-      let x = c .before .before .before .before .before .path-square .ensures .0 in
-      let size = x .steady .size ∙ v .steady .size in
-      let room = row-room (s .pre .1 .0) in
-      let end = row-end (s .args .l) (goal-child fb .0) in
-      let own = row .row-start .ensures in
-      (omega arith, omega (arith, c .row-start2 .ensures), s .pre .1 .0 .legal .trace .few)
-
-  value-formula-returns-3 : of-formula value-formula-lts.Need-returns-3
-  value-formula-returns-3 c =
-      let second = c .before .before .before in
-      let fb = second .before .before .before .before .before .before .before .before .before .before .before in
-      let row = f-row fb in
-      let s = f-start row in
-      let v = second .before .before .before .before .before .before .before .before .before .value-formula .ensures in
-      let x = second .before .before .before .before .before .path-square .ensures in
-      modal-done (s .pre .1 .0) (row .before .kind-at .ensures) (s .pre .1 .1) (row .row-start .ensures)
-      (omega (arith, three (fb .before) .0, row .before .kind-at .ensures)) (fb .before .before .field-a .ensures)
-      (fb .field-b .ensures) (second .row-start2 .ensures) v (x .0) (x .1) (c .before .before .put-modal .ensures)
+  abbrev called : value-formula-lts.After-put-modal-arg C P Q → value-formula-lts.After-path-square C P Q
+  called c = c .before .before .before .before
 
 pub +path-square+value-formula-spec : {M : Type 1} → statement M
-+path-square+value-formula-spec = close μ-path-square μ-value-formula (λ t. path-square-lts.spec _ _ _
++path-square+value-formula-spec = close μ-path-square μ-value-formula
+    (λ t. path-square-lts.spec (
+      _,
+      kind-at.Learnt,
+      _,
+      move-square.Learnt,
+      _,
+      field-a.Learnt,
+      _,
+      value-formula.Post,
+      _,
+      row-start.Learnt,
+      _,
+      test-square.Learnt,
+      _,
+      begins-with-test.Learnt,
+      _,
+      field-b.Learnt,
+      _,
+      path-square.Post,
+      _,
+      cap.Learnt,
+      _,
+      close-reads.Learnt,
+      _,
+      join.Learnt,
+    ) _ path-square.Post
     (λ c κs. search needs)
+    -- a move
     (λ c κs. search needs)
-    (path-square-returns t)
+    (λ c.
+    let k = c .before .before in
+    move-done (k .before .before .before .before .pre .1) (k .kind-at .ensures) (c .before .if1 .taken) (c .move-square .ensures))
     (λ c κs. search needs)
-    (path-square-value-formula-requires t)
-    (path-square-row-start-requires t)
-    (path-square-test-square-requires t)
+    -- a test
+    (λ c κs.
+    let a = c .before .before in
+    test-formula (start a .pre) (kind a .kind-at .ensures) (c .before .if2 .taken) (a .field-a .ensures))
+    (λ c κs.
+    let i = c .before .before .before .before .before in
+    row-low (test-formula (start (i .before) .pre) (kind (i .before) .kind-at .ensures) (i .if2 .taken)
+    (i .before .field-a .ensures) .1 .0))
+    (λ c κs.
+    let i = c .before .before .before .before .before .before in
+    let w = test-formula (start (i .before) .pre) (kind (i .before) .kind-at .ensures) (i .if2 .taken)
+    (i .before .field-a .ensures) .1 .0 in
+    (row-low w .1, row-within w (c .row-start .ensures) (search)))
     (λ c. search needs)
-    (path-square-returns-2 t)
-    (path-square-begins-with-test-requires t)
-    (path-square-field-a-requires-2 t)
-    (path-square-value-formula-requires-2 t)
+    (λ c.
+    let i = c .before .before .before .before .before .before .before in
+    test-done (start (i .before) .pre .1) (kind (i .before) .kind-at .ensures) (i .if2 .taken) (i .before .field-a .ensures) (c .before .row-start .ensures)
+    (search) (c .test-square .ensures))
+    -- a sequence that begins with a test
+    (λ c κs.
+    let a = c .before in
+    part-first (start a .pre) (kind a .kind-at .ensures) (omega arith) (a .field-a .ensures) .1 .0 .index)
+    (λ c κs.
+    let a = c .before .before .before in
+    part-first (start a .pre) (kind a .kind-at .ensures) (omega arith) (a .field-a .ensures) .1 .0 .index)
+    (λ c κs.
+    let f = c .before in
+    let a = test f in
+    let e = begins (a .field-a .ensures) (f .before .before .begins-with-test .ensures) (f .before .if3 .taken) in
+    tested-formula (start a .pre) (kind a .kind-at .ensures) e (f .field-a2 .ensures))
     (λ c κs. search needs)
-    (path-square-path-square-requires t)
-    (path-square-row-start-requires-2 t)
-    (path-square-cap-requires t)
+    (λ c κs.
+    let b = c .before in
+    let f = tested b .before .before in
+    let a = test f in
+    let e = begins (a .field-a .ensures) (f .before .before .begins-with-test .ensures) (f .before .if3 .taken) in
+    child-along (tested-path (start a .pre) (kind a .kind-at .ensures) e (b .field-b .ensures)) (search))
+    (λ c κs.
+    let f = tested (capped c .before .before) .before .before in
+    let a = test f in
+    let e = begins (a .field-a .ensures) (f .before .before .begins-with-test .ensures) (f .before .if3 .taken) in
+    row-low (tested-formula (start a .pre) (kind a .kind-at .ensures) e (f .field-a2 .ensures) .1 .0))
+    (λ c κs.
+    let q = capped (c .before) in
+    let v = tested (q .before .before) in
+    let f = v .before .before in
+    let a = test f in
+    let e = begins (a .field-a .ensures) (f .before .before .begins-with-test .ensures) (f .before .if3 .taken) in
+    let w = tested-formula (start a .pre) (kind a .kind-at .ensures) e (f .field-a2 .ensures) .1 .0 in
+    let size = q .path-square .ensures .0 .steady .size ∙ v .value-formula2 .ensures .steady .size in
+    (row-low w .1, row-within w (c .row-start2 .ensures) size, q .path-square .ensures .1 .size))
     (λ c. search needs)
-    (path-square-returns-3 t)
-    (path-square-path-square-requires-2 t)
-    (path-square-close-requires t)
+    (λ c.
+    let q = capped (c .before .before) in
+    let v = tested (q .before .before) in
+    let f = v .before .before in
+    let a = test f in
+    let e = begins (a .field-a .ensures) (f .before .before .begins-with-test .ensures) (f .before .if3 .taken) in
+    tested-done (start a .pre .1) (kind a .kind-at .ensures) e (f .field-a2 .ensures)
+    (q .before .before .field-b .ensures) (c .before .row-start2 .ensures) (v .value-formula2 .ensures)
+    (q .path-square .ensures .0) (q .path-square .ensures .1) (c .cap .ensures))
+    -- a star
+    (λ c κs.
+    let a = c .before .before .before .before in
+    part-first (start a .pre) (kind a .kind-at .ensures) (omega arith) (a .field-a .ensures))
+    (λ c κs.
+    let e = whole (c .before .before) in
+    let h = part-first (start (e .before) .pre) (kind (e .before) .kind-at .ensures) (omega arith) (e .before .field-a .ensures) in
+    search needs)
     (λ c. search needs)
-    (path-square-returns-4 t)
+    (λ c.
+    let a = whole (c .before .before .before) .before in
+    star-done (start a .pre .1) (kind a .kind-at .ensures) (c .before .before .if4 .taken) (a .field-a .ensures) (search)
+    (c .before .before .before .before .before .path-square2 .ensures .1) (c .close .ensures))
+    -- a choice or another sequence
     (λ c κs. search needs)
-    (path-square-path-square-requires-3 t)
-    (path-square-kind-at-requires-2 t)
-    (path-square-kind-at-requires-3 t)
-    (path-square-join-requires t)
+    (λ c κs.
+    let b = c .before in
+    let e = whole (b .before .before) in
+    child-along (part-second (start (e .before) .pre) (kind (e .before) .kind-at .ensures) (omega arith) (b .before .if4 .left)
+    (b .field-b2 .ensures)) (search))
+    (λ c κs.
+    let e = whole (other c .before .before) in
+    part-first (start (e .before) .pre) (kind (e .before) .kind-at .ensures) (omega arith) (e .before .field-a .ensures)
+    .1 .0 .index)
+    (λ c κs.
+    let b = other (c .before) in
+    let e = whole (b .before .before) in
+    part-second (start (e .before) .pre) (kind (e .before) .kind-at .ensures) (omega arith) (b .before .if4 .left)
+    (b .field-b2 .ensures) .1 .0 .index)
+    (λ c κs.
+    let n = c .before .before in
+    let b = other (n .before .before) in
+    let e = whole (b .before .before) in
+    let a = e .before in
+    let g = part-first (start a .pre) (kind a .kind-at .ensures) (omega arith) (a .field-a .ensures) .1 in
+    let h = part-second (start a .pre) (kind a .kind-at .ensures) (omega arith) (b .before .if4 .left) (b .field-b2 .ensures) .1 in
+    let x = b .before .before .before .before .path-square2 .ensures .1 in
+    let y = n .before .before .before .before .path-square3 .ensures .1 in (
+      g .0 .legal .trace .few,
+      x .size,
+      square-part g (n .before .kind-at2 .ensures) x,
+      square-part h (n .kind-at3 .ensures) y,
+    ))
     (λ c. search needs)
-    (path-square-returns-5 t))
-    λ t. value-formula-lts.spec _ _ _
+    (λ c.
+    let n = c .before .before .before in
+    let b = other (n .before .before) in
+    let x = b .before .before .before .before .path-square2 .ensures in
+    let y = n .before .before .before .before .path-square3 .ensures in
+    let e = whole (b .before .before) in
+    join-done (start (e .before) .pre .1) (kind (e .before) .kind-at .ensures) (omega arith) (b .before .if4 .left) (e .before .field-a .ensures) (b .field-b2 .ensures)
+    (x .0) (x .1 .cells) (y .0) (y .1 .cells) (c .join .ensures)))
+    λ t. value-formula-lts.spec (
+      _,
+      kind-at.Learnt,
+      _,
+      row-start.Learnt,
+      _,
+      put-constant.Learnt,
+      _,
+      field-a.Learnt,
+      _,
+      put-atom.Learnt,
+      _,
+      field-b.Learnt,
+      _,
+      value-formula.Post,
+      _,
+      path-square.Post,
+      _,
+      put-modal.Learnt,
+    ) _ value-formula.Post
     (λ c κs. search needs)
     (λ c κs. search needs)
+    -- a constant
     (λ c. search needs)
-    (value-formula-put-constant-requires t)
+    (λ c κs. row-within (begin (c .before .before) .pre .1 .0) (c .before .before .row-start .ensures) refl)
     (λ c. search needs)
-    (value-formula-returns t)
+    (λ c.
+    let r = c .before .before .before .before .before in
+    constant-done (begin r .pre .1) (r .before .kind-at .ensures) (r .row-start .ensures) (c .before .before .before .before .if1 .taken)
+    (c .before .before .put-constant .ensures))
+    -- an atom
     (λ c κs. search needs)
-    (value-formula-put-atom-requires t)
+    (λ c κs.
+    let a = c .before .before in
+    let w = begin (row a) .pre .1 .0 in
+    let e = row a .before .kind-at .ensures in (
+      row-within w (row a .row-start .ensures) refl,
+      w .legal .trace .size,
+      atom-low w (sym e ∙ c .before .if2 .taken) (a .field-a .ensures),
+    ))
     (λ c. search needs)
-    (value-formula-returns-2 t)
+    (λ c.
+    let i = c .before .before .before .before in
+    let r = row (i .before) in
+    atom-done (begin r .pre .1) (r .before .kind-at .ensures) (r .row-start .ensures) (i .if2 .taken) (i .before .field-a .ensures)
+    (c .before .before .put-atom .ensures))
+    -- a diamond or a box
     (λ c κs. search needs)
-    (value-formula-value-formula-requires t)
-    (value-formula-path-square-requires t)
-    (value-formula-row-start-requires-2 t)
-    (value-formula-put-modal-requires t)
+    (λ c κs.
+    let b = c .before in
+    let r = row (b .before .before) in
+    modal-formula (begin r .pre) (r .before .kind-at .ensures) (omega arith) (b .field-b .ensures))
+    (λ c κs.
+    let b = goal c in
+    let r = row (b .before .before) in
+    child-along (modal-path (begin r .pre) (r .before .kind-at .ensures) (omega arith) (b .before .before .field-a .ensures))
+    (search))
+    (λ c κs.
+    let b = goal (called c .before) in
+    let r = row (b .before .before) in
+    row-low (modal-formula (begin r .pre) (r .before .kind-at .ensures) (omega arith) (b .field-b .ensures) .1 .0))
+    (λ c κs.
+    let x = called (c .before) in
+    let b = goal (x .before) in
+    let r = row (b .before .before) in
+    let h = modal-formula (refl, begin r .pre .1) (r .before .kind-at .ensures) (omega arith) (b .field-b .ensures) in
+    let size = x .path-square .ensures .0 .steady .size ∙ x .before .before .before .before .value-formula .ensures .steady .size in
+    let end = row-end (begin r .args .l) (h .0) in (
+      row-within (begin r .pre .1 .0) (r .row-start .ensures) size,
+      omega (arith, c .row-start2 .ensures, r .row-start .ensures),
+      row-low (h .1 .0) .1,
+    ))
     (λ c. search needs)
-    (value-formula-returns-3 t)
+    (λ c.
+    let m = c .before .before .before in
+    let x = called (m .before) in
+    let b = goal (x .before) in
+    let r = row (b .before .before) in
+    modal-done (begin r .pre .1) (r .before .kind-at .ensures) (r .row-start .ensures) (omega arith) (b .before .before .field-a .ensures)
+    (b .field-b .ensures) (m .row-start2 .ensures) (x .before .before .before .before .value-formula .ensures) (x .path-square .ensures .0) (x .path-square .ensures .1)
+    (c .before .before .put-modal .ensures))

@@ -13,7 +13,7 @@ kind-at-requires c κs = c .before .pre .asked .index
 returns : tie.Need-returns
 returns c =
     let w = c .before .before .before .pre in
-    star-closed (w .asked) (c .before .kind-at .ensures) (w .sort) (c .if1 .taken) (w .square)
+    star-closed (w .asked, w .sort) (c .before .kind-at .ensures) (c .if1 .taken) (w .square)
 
 one-way-requires : tie.Need-one-way-requires
 one-way-requires c κs =
@@ -41,7 +41,7 @@ run-back-requires c κs =
 close-requires : tie.Need-close-requires
 close-requires c κs =
     let w = c .before .before .before .before .before .before .before .pre in
-    (w .asked .legal .trace .few, w .square .size, square-low (w .asked) refl (w .sort) _ (w .square))
+    (w .asked .legal .trace .few, w .square .size, square-low (w .asked, w .sort) refl _ (w .square))
 
 returns-2 : tie.Need-returns-2
 returns-2 c = c .run-on .ensures
