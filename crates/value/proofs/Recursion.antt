@@ -14,7 +14,7 @@ use Rattle.meaning.specs.Value.{Square, modalRow, moveSquare, testSquare, starS
 use Rattle.meaning.proofs.Onward.{square-bound}
 use Rattle.records.specs.Code.{modeOf, wayOf}
 use Rattle.squares.specs.Cells.{at, rowAt, Holds, Put, Part, joinOf}
-use Rattle.value.specs.Valuing.{Under, Right, Asked, Valued, Squared}
+use Rattle.value.specs.Valuing.{Under, Right, Valued, Squared}
 use Rattle.meaning.proofs.Nodes.{differs}
 use Rattle.records.proofs.Numbers.{path-number, formula-number}
 use Rattle.value.proofs.Meant.{val, sq, value-constant, value-atom, value-modal}

@@ -8,13 +8,13 @@ use native.Mathlib.Nat.{le-trans, le-min, le-antisymm}
 use native.Mathlib.Omega.{arith}
 use lib.Dec.{eqb}
 use borrow.Author.Tests.{eqb-true}
-use Rattle.meaning.specs.Record.{kindAt, kindByte, fieldA, fieldB, path, sortOf}
+use Rattle.meaning.specs.Record.{kindByte, fieldA, fieldB, path}
 use Rattle.meaning.specs.Value.{Row, Square, testSquare, sequenceSquare}
 use Rattle.meaning.proofs.Bounds.{le-above}
 use Rattle.meaning.proofs.Fails.{and-holds}
 use Rattle.meaning.proofs.Reach.{only-there, value-there, there-bound, sequence-elim, sequence-intro}
 use Rattle.squares.specs.Cells.{at, rowAt, Holds, capped, joinOf}
-use Rattle.value.specs.Valuing.{Under, Asked, Valued, Squared}
+use Rattle.value.specs.Valuing.{Under, Valued, Squared}
 use Rattle.squares.proofs.Same.{Agree, holds-same}
 use Rattle.value.proofs.Children.{AskedAs, Tested, part-first, tested-formula}
 use Rattle.value.proofs.Recursion.{test-valued, test-agrees, join-done}
