@@ -146,8 +146,9 @@ pub +path-square+value-formula-spec : {M : Type 1} → statement M
     part-first (start a .pre) (kind a .kind-at .ensures) (omega arith) (a .field-a .ensures))
     (λ c κs. let e = whole (c .before .before) in
     let a = e .before in
-    let h = part-first (start a .pre) (kind a .kind-at .ensures) (omega arith) (a .field-a .ensures) in
-    search needs)
+    let h = part-first (start a .pre) (kind a .kind-at .ensures) (omega arith) (a .field-a .ensures) .1 in
+    let q = c .before .before .before .before .path-square2 .ensures .1 in
+    record { atoms = _; cells = _; table = _; asked = h .0; sort = h .1; square = q })
     (λ c. search needs)
     (λ c. let i = c .before .before in
     let a = whole (i .before) .before in
