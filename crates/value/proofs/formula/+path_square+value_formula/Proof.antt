@@ -1,6 +1,7 @@
 -- `path_square` and `value_formula`, which call each other, meet their contracts. The measure of either is the number
 -- of its record, and a child is earlier, so each call is below its caller's measure. Each branch is a kind: its
 -- children are asked, and what comes back is put together by the law for that kind.
+mod Claims
 use mathlib.Core.Path.{refl, sym, _∙_}
 use native.Mathlib.Omega.{arith}
 use Rattle.value.proofs.Table.{row-end}
@@ -10,34 +11,17 @@ use Rattle.value.proofs.Recursion.{square-part, move-done, test-done, s
 use Rattle.value.proofs.Recursion.{constant-done, atom-done, modal-done}
 use Rattle.value.proofs.Tested.{begins, tested-done}
 use borrow.Author.Needs.{needs}
-use Prim.Native.Nat.{ℕ}
+use Prim.Native.Nat.{_≤_}
 use borrow.Fn.Kinds.{In, Out}
-use borrow.Fn.PlainCycle.{Measures}
-use Rattle.records.proofs.layout.field_a.Reads.{Learnt as field-a}
-use Rattle.records.proofs.layout.field_b.Reads.{Learnt as field-b}
-use Rattle.records.proofs.layout.kind_at.Reads.{Learnt as kind-at}
-use Rattle.squares.proofs.square.cap.Reads.{Learnt as cap}
-use Rattle.squares.proofs.square.join.Reads.{Learnt as join}
-use Rattle.squares.proofs.square.move_square.Reads.{Learnt as move}
-use Rattle.squares.proofs.square.test_square.Reads.{Learnt as test}
-use Rattle.value.proofs.row.put_atom.Reads.{Learnt as put-atom}
-use Rattle.value.proofs.row.put_constant.Reads.{Learnt as put-constant}
-use Rattle.value.proofs.row.put_modal.Reads.{Learnt as put-modal}
-use Rattle.value.proofs.row.row_start.Reads.{Learnt as row-start}
-use Rattle.value.proofs.formula.begins_with_test.Reads.{Learnt as begun}
-use Rattle.value.proofs.formula.close.Reads.{Learnt as closed}
-use Rattle.value.proofs.formula.path_square.Reads.{Post as squared}
+use Rattle.value.proofs.formula.path_square.Reads as path-square
 use Rattle.value.proofs.formula.path_square.Kinds as path-kinds
 use Rattle.value.proofs.formula.+path_square+value_formula.Lts-path_square as path
-use Rattle.value.proofs.formula.value_formula.Reads.{Post as valued}
+use Rattle.value.proofs.formula.value_formula.Reads as value-formula
 use Rattle.value.proofs.formula.value_formula.Kinds as formula-kinds
 use Rattle.value.proofs.formula.+path_square+value_formula.Lts-value_formula as formula
+use Rattle.value.proofs.formula.+path_square+value_formula.Proof.Claims.{μ, at, path-claims, formula-claims}
 use Rattle.value.proofs.formula.+path_square+value_formula.{statement}
 use Rattle.value.proofs.formula.+path_square+value_formula.Tie.{close}
-
--- The two have the same parameters.
-abbrev μ : Measures 3 path-kinds.ps ℕ
-μ κs a = a .1 .1 .1 .1 .0
 
 -- ---- places of path_square
 module _ {C : path.Claims} {P : In 3 path-kinds.ps} {Q : Out 3 path-kinds.ps path-kinds.r} where
@@ -46,6 +30,10 @@ module _ {C : path.Claims} {P : In 3 path-kinds.ps} {Q : Out 3 path-kinds.ps pat
 
   abbrev start : path.After-field-a C P Q → path.Start C P Q
   start a = kind a .before .before .before .before
+
+  -- A path that is no move and no test has parts.
+  parts : (e : path.Else2 C P Q) → 8 ≤ kind (e .before) .kind-at .result
+  parts e = let seven = e .before .before .if1 .left in let other = e .if2 .left in omega arith
 
   -- In a sequence that begins with a test, back to its first field, to the test's formula, to the second path.
   abbrev first : path.After-field-a2 C P Q → path.After-field-a C P Q
@@ -72,6 +60,10 @@ module _ {C : formula.Claims} {P : In 3 formula-kinds.ps} {Q : Out 3 formula-kin
   abbrev begin : formula.After-row-start C P Q → formula.Start C P Q
   begin r = r .before .before .before .before .before
 
+  -- A formula that is no constant and no atom is a diamond or a box.
+  modal : (e : formula.Else2 C P Q) → 3 ≤ row (e .before) .before .kind-at .result
+  modal e = let two = e .before .before .if1 .left in let other = e .if2 .left in omega arith
+
   -- In a diamond or a box, back to its second field, and to its path's square.
   abbrev goal : formula.After-path-square-arg C P Q → formula.After-field-b C P Q
   goal c = c .before .before .before .before .before
@@ -81,9 +73,7 @@ module _ {C : formula.Claims} {P : In 3 formula-kinds.ps} {Q : Out 3 formula-kin
 
 pub +path-square+value-formula-spec : {M : Type 1} → statement M
 +path-square+value-formula-spec = close μ μ
-    (λ t. path.spec
-    (_, kind-at, _, move, _, field-a, _, valued, _, row-start, _, test, _, begun, _, field-b, _, squared, _, cap, _, closed, _, join)
-    _ squared
+    (λ t. path.spec (path-claims t) (at t path-square.Pre) path-square.Post
     (λ c κs. search needs)
     -- a move
     (λ c κs. search needs)
@@ -108,9 +98,9 @@ pub +path-square+value-formula-spec : {M : Type 1} → statement M
     (c .before .row-start .ensures) (search) (c .test-square .ensures))
     -- a sequence that begins with a test
     (λ c κs. let a = c .before in
-    part-first (start a .pre) (kind a .kind-at .ensures) (omega arith) (a .field-a .ensures) .1 .0 .index)
+    part-first (start a .pre) (kind a .kind-at .ensures) (parts c) (a .field-a .ensures) .1 .0 .index)
     (λ c κs. let a = c .before .before .before in
-    part-first (start a .pre) (kind a .kind-at .ensures) (omega arith) (a .field-a .ensures) .1 .0 .index)
+    part-first (start a .pre) (kind a .kind-at .ensures) (parts (c .before .before)) (a .field-a .ensures) .1 .0 .index)
     (λ c κs. let f = c .before in
     let a = first f in
     let e = begins (a .field-a .ensures) (f .before .before .begins-with-test .ensures) (f .before .if3 .taken) in
@@ -143,10 +133,10 @@ pub +path-square+value-formula-spec : {M : Type 1} → statement M
     (q .path-square .ensures .1) (c .cap .ensures))
     -- a star
     (λ c κs. let a = c .before .before .before .before in
-    part-first (start a .pre) (kind a .kind-at .ensures) (omega arith) (a .field-a .ensures))
+    part-first (start a .pre) (kind a .kind-at .ensures) (parts (c .before .before .before)) (a .field-a .ensures))
     (λ c κs. let e = whole (c .before .before) in
     let a = e .before in
-    let h = part-first (start a .pre) (kind a .kind-at .ensures) (omega arith) (a .field-a .ensures) .1 in
+    let h = part-first (start a .pre) (kind a .kind-at .ensures) (parts e) (a .field-a .ensures) .1 in
     let q = c .before .before .before .before .path-square2 .ensures .1 in
     record { atoms = _; cells = _; table = _; asked = h .0; sort = h .1; square = q })
     (λ c. search needs)
@@ -160,22 +150,22 @@ pub +path-square+value-formula-spec : {M : Type 1} → statement M
     (λ c κs. let b = c .before in
     let e = whole (b .before .before) in
     let a = e .before in
-    child-along (part-second (start a .pre) (kind a .kind-at .ensures) (omega arith) (b .before .if4 .left)
+    child-along (part-second (start a .pre) (kind a .kind-at .ensures) (parts e) (b .before .if4 .left)
     (b .field-b2 .ensures)) (search))
     (λ c κs. let e = whole (other c .before .before) in
     let a = e .before in
-    part-first (start a .pre) (kind a .kind-at .ensures) (omega arith) (a .field-a .ensures) .1 .0 .index)
+    part-first (start a .pre) (kind a .kind-at .ensures) (parts e) (a .field-a .ensures) .1 .0 .index)
     (λ c κs. let b = other (c .before) in
     let e = whole (b .before .before) in
     let a = e .before in
-    part-second (start a .pre) (kind a .kind-at .ensures) (omega arith) (b .before .if4 .left) (b .field-b2 .ensures)
+    part-second (start a .pre) (kind a .kind-at .ensures) (parts e) (b .before .if4 .left) (b .field-b2 .ensures)
     .1 .0 .index)
     (λ c κs. let n = c .before .before in
     let b = other (n .before .before) in
     let e = whole (b .before .before) in
     let a = e .before in
-    let g = part-first (start a .pre) (kind a .kind-at .ensures) (omega arith) (a .field-a .ensures) .1 in
-    let h = part-second (start a .pre) (kind a .kind-at .ensures) (omega arith) (b .before .if4 .left)
+    let g = part-first (start a .pre) (kind a .kind-at .ensures) (parts e) (a .field-a .ensures) .1 in
+    let h = part-second (start a .pre) (kind a .kind-at .ensures) (parts e) (b .before .if4 .left)
     (b .field-b2 .ensures) .1 in
     let x = b .before .before .before .before .path-square2 .ensures .1 in
     let y = n .before .before .before .before .path-square3 .ensures .1 in
@@ -187,11 +177,9 @@ pub +path-square+value-formula-spec : {M : Type 1} → statement M
     let a = e .before in
     let x = b .before .before .before .before .path-square2 .ensures in
     let y = n .before .before .before .before .path-square3 .ensures in
-    join-done (start a .pre .1) (kind a .kind-at .ensures) (omega arith) (b .before .if4 .left) (a .field-a .ensures)
+    join-done (start a .pre .1) (kind a .kind-at .ensures) (parts e) (b .before .if4 .left) (a .field-a .ensures)
     (b .field-b2 .ensures) (x .0) (x .1 .cells) (y .0) (y .1 .cells) (c .join .ensures)))
-    λ t. formula.spec
-    (_, kind-at, _, row-start, _, put-constant, _, field-a, _, put-atom, _, field-b, _, valued, _, squared, _, put-modal)
-    _ valued
+    λ t. formula.spec (formula-claims t) (at t value-formula.Pre) value-formula.Post
     (λ c κs. search needs)
     (λ c κs. search needs)
     -- a constant
@@ -218,18 +206,18 @@ pub +path-square+value-formula-spec : {M : Type 1} → statement M
     (λ c κs. search needs)
     (λ c κs. let b = c .before in
     let r = row (b .before .before) in
-    modal-formula (begin r .pre) (r .before .kind-at .ensures) (omega arith) (b .field-b .ensures))
-    (λ c κs. let a = goal c .before .before in
-    let r = row a in
-    child-along (modal-path (begin r .pre) (r .before .kind-at .ensures) (omega arith) (a .field-a .ensures)) (search))
+    modal-formula (begin r .pre) (r .before .kind-at .ensures) (modal (b .before)) (b .field-b .ensures))
+    (λ c κs. let e = goal c .before in
+    let r = row (e .before) in
+    child-along (modal-path (begin r .pre) (r .before .kind-at .ensures) (modal e) (e .before .field-a .ensures)) (search))
     (λ c κs. let b = goal (along c .before) in
     let r = row (b .before .before) in
-    row-low (modal-formula (begin r .pre) (r .before .kind-at .ensures) (omega arith) (b .field-b .ensures) .1 .0))
+    row-low (modal-formula (begin r .pre) (r .before .kind-at .ensures) (modal (b .before)) (b .field-b .ensures) .1 .0))
     (λ c κs. let x = along (c .before) in
     let b = goal (x .before) in
     let r = row (b .before .before) in
     let v = x .before .before .before .before .value-formula .ensures in
-    let h = modal-formula (refl, begin r .pre .1) (r .before .kind-at .ensures) (omega arith) (b .field-b .ensures) in
+    let h = modal-formula (refl, begin r .pre .1) (r .before .kind-at .ensures) (modal (b .before)) (b .field-b .ensures) in
     let end = row-end (begin r .args .l) (h .0) in (
       row-within (begin r .pre .1 .0) (r .row-start .ensures) (x .path-square .ensures .0 .steady .size ∙ v .steady .size),
       omega (arith, c .row-start2 .ensures, r .row-start .ensures),
@@ -241,6 +229,6 @@ pub +path-square+value-formula-spec : {M : Type 1} → statement M
     let b = goal (x .before) in
     let a = b .before .before in
     let r = row a in
-    modal-done (begin r .pre .1) (r .before .kind-at .ensures) (r .row-start .ensures) (omega arith) (a .field-a .ensures)
+    modal-done (begin r .pre .1) (r .before .kind-at .ensures) (r .row-start .ensures) (modal (b .before)) (a .field-a .ensures)
     (b .field-b .ensures) (m .row-start2 .ensures) (x .before .before .before .before .value-formula .ensures)
     (x .path-square .ensures .0) (x .path-square .ensures .1) (c .before .before .put-modal .ensures))
