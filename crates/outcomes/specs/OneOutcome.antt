@@ -41,8 +41,8 @@ module _ {n : ℕ} (ps : List (PK n)) (r : RK n) where
   abbrev pub OneFits : Out n ps r → Type 0
   OneFits Post = (κs : Lfts n) (a : Dens κs ps) (o u : Outcome κs a) → Fits Post κs a o → Fits Post κs a u → o ≡ u
 
-  -- A path's square over L instants is 1,024 bytes long whatever L is. The functions on squares tell what is between two instants; no
-  -- function looks at the other bytes, and no contract speaks of them.
+  -- A path's square over L instants is 1,024 bytes long whatever L is. The functions on squares tell what is between two instants; no value
+  -- there depends on the other bytes, and no contract speaks of them.
   abbrev pub OneSquare : Out n ps r → ((κs : Lfts n) → Dens κs ps → ℕ) → ((κs : Lfts n) (a : Dens κs ps) → Outcome κs a → List ℕ) → Type 0
   OneSquare Post L square = (κs : Lfts n) (a : Dens κs ps) (o u : Outcome κs a) → Fits Post κs a o → Fits Post κs a u
       → (k j : ℕ) → k < L κs a → j < L κs a → at (square κs a o) k j ≡ at (square κs a u) k j
