@@ -11,7 +11,7 @@ use mathlib.Core.Bool.{Bool, false, cond}
 use mathlib.Core.List.{List}
 use lib.Dec.{eqb, ltb}
 use lib.ListN.{length, getD}
-use Rattle.meaning.specs.Record.{count, kindAt, fieldA, fieldB, path, sortOf, child, useA, useB}
+use Rattle.meaning.specs.Record.{mostRecords, count, kindAt, fieldA, fieldB, path, sortOf, child, useA, useB}
 use Rattle.meaning.specs.Translation.{context, under}
 use Rattle.meaning.specs.Tree.{modalNumber}
 use Rattle.records.specs.Code.{modeOf}
@@ -34,14 +34,14 @@ pub record Right (s : List ℕ) (modes conts : List ℕ) (r : ℕ) : Type 0 wher
   pub continuation : getD conts r 0 ≡ context s r .continuation
 
 pub record Handed (s : List ℕ) (p : ℕ) (modes conts modes′ conts′ : List ℕ) : Type 0 where
-  pub modes-size : length modes′ ≡ 255
-  pub conts-size : length conts′ ≡ 255
+  pub modes-size : length modes′ ≡ mostRecords
+  pub conts-size : length conts′ ≡ mostRecords
   pub parts : (r : ℕ) → PathUnder s p r → Right s modes′ conts′ r
   pub kept : (r : ℕ) → Right s modes conts r → Right s modes′ conts′ r
 
 pub record AllHanded (s : List ℕ) (modes conts : List ℕ) : Type 0 where
-  pub modes-size : length modes ≡ 255
-  pub conts-size : length conts ≡ 255
+  pub modes-size : length modes ≡ mostRecords
+  pub conts-size : length conts ≡ mostRecords
   pub right : (r : ℕ) → r < count s → sortOf (kindAt s r) ≡ path → Right s modes conts r
   pub within : (r : ℕ) → r < count s → sortOf (kindAt s r) ≡ path → context s r .continuation < count s
 
@@ -52,5 +52,5 @@ unfoldable pub isModal : ℕ → Bool
 isModal kind = cond (ltb kind 3) false (ltb kind 5)
 
 pub record Moded (s : List ℕ) (modes : List ℕ) : Type 0 where
-  pub size : length modes ≡ 255
+  pub size : length modes ≡ mostRecords
   pub mode : (r : ℕ) → r < count s → sortOf (kindAt s r) ≡ path → getD modes r 0 ≡ modalNumber (context s r .mode)

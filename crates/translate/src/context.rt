@@ -2,6 +2,7 @@
 // record number falling.
 ghost use mathlib.Core.Path.{_≡_};
 ghost use lib.ListN.{length};
+ghost use Rattle.meaning.specs.Record.{mostRecords};
 ghost use Rattle.paths.specs.Asking.{Formed};
 ghost use Rattle.translate.specs.Contexts.{Placed, Handed, AllHanded, firstCont, isModal};
 use records::kind;
@@ -13,7 +14,7 @@ pub fn find_contexts(
     modes: &mut [u8; layout::MOST_RECORDS],
     conts: &mut [u8; layout::MOST_RECORDS],
 )
-    requires { ⌜ Formed (now records) × (length (now modes) ≡ 255) × (length (now conts) ≡ 255) ⌝ }
+    requires { ⌜ Formed (now records) × (length (now modes) ≡ mostRecords) × (length (now conts) ≡ mostRecords) ⌝ }
     ensures { λ _. ⌜ AllHanded (now (records .entry)) (now (modes .exit)) (now (conts .exit)) ⌝ }
 {
     let n = layout::record_count(records);
@@ -62,7 +63,7 @@ fn hand_down(
     modes: &mut [u8; layout::MOST_RECORDS],
     conts: &mut [u8; layout::MOST_RECORDS],
 )
-    requires { ⌜ Placed (now records) mode c p × (length (now modes) ≡ 255) × (length (now conts) ≡ 255) ⌝ }
+    requires { ⌜ Placed (now records) mode c p × (length (now modes) ≡ mostRecords) × (length (now conts) ≡ mostRecords) ⌝ }
     ensures { λ _. ⌜ Handed (now (records .entry)) p (now (modes .entry)) (now (conts .entry)) (now (modes .exit)) (now (conts .exit)) ⌝ }
 {
     modes[p] = mode;

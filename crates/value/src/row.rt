@@ -3,6 +3,7 @@ ghost use mathlib.Core.Path.{_≡_};
 ghost use Prim.Native.Nat.{_+_, _*_, _<_, _≤_};
 ghost use lib.ListN.{length};
 ghost use Rattle.meaning.specs.Run.{cellOf};
+ghost use Rattle.meaning.specs.Record.{mostRecords};
 ghost use Rattle.meaning.specs.Value.{diamondRow, boxRow, modalRow};
 ghost use Rattle.records.specs.Code.{modeOf};
 ghost use Rattle.squares.specs.Cells.{at, rowAt, Put};
@@ -10,7 +11,7 @@ use records::kind;
 
 // Where row r starts.
 pub fn row_start(r: usize, l: usize) -> usize
-    requires { ⌜ (r ≤ 255) × (l ≤ 32) ⌝ }
+    requires { ⌜ (r ≤ mostRecords) × (l ≤ 32) ⌝ }
     ensures { λ s. ⌜ s ≡ r * l ⌝ }
 {
     r * l
