@@ -2,13 +2,13 @@
 -- that fails exactly where a plain fact about the records holds. So no ground applies exactly where all these facts hold.
 use Prim.Native.Nat.{ℕ, _*_, _<_, _≤_}
 use mathlib.Core.Path.{_≡_, refl}
-use mathlib.Core.Bool.{Bool, true, false}
+use mathlib.Core.Bool.{true, false}
 use mathlib.Core.Logic.{_↔_}
 use mathlib.Core.List.{List, [], _∷_}
 use native.Mathlib.Omega.{arith}
 use lib.ListN.{length}
 use Rattle.meaning.specs.Run.{each}
-use Rattle.meaning.specs.Record.{recordSize, mostRecords, count, kindAt, zeroByte, fieldA, fieldB, known}
+use Rattle.meaning.specs.Record.{Language, core, recordSize, mostRecords, count, kindAt, zeroByte, fieldA, fieldB, known}
 use Rattle.meaning.specs.Record.{Use, unused, atomNumber, child, useA, useB}
 use Rattle.meaning.specs.Refusal.{Ground, firstOf, recordGrounds, treeGrounds, starGrounds, formulaGrounds, checkGrounds, starredGrounds, stray, late, beyond, misfit}
 use Rattle.meaning.specs.Refusal.{ground1, ground2, ground3, ground4, ground5, ground6, ground6-last, ground7, ground8, ground11, ground12}
@@ -29,7 +29,7 @@ ground1-fails s = simp tests (omega arith)
 each-clears : (f : ℕ → List Ground) (n : ℕ) → Clear (each n f) ↔ ((i : ℕ) → i < n → Clear (f i))
 each-clears f n = (clear-each f n, each-clear f n)
 
-module _ (full : Bool) (s : List ℕ) (A : ℕ) where
+module _ (ℓ : Language) (s : List ℕ) (A : ℕ) where
   module _ (r : ℕ) where
     -- 3 to 6 for one field, by what it holds: v is what may stand there.
     field-fits : (u : Use) (v : ℕ)
@@ -42,11 +42,11 @@ module _ (full : Bool) (s : List ℕ) (A : ℕ) where
     -- What is asked of one record: its kind, its zero byte, its two fields.
     abbrev Sound : Type 0
     Sound =
-        (known full (kindAt s r) ≡ true) × (zeroByte s r ≡ 0)
+        (known ℓ (kindAt s r) ≡ true) × (zeroByte s r ≡ 0)
         × Fits s A r (useA (kindAt s r)) (fieldA s r) × Fits s A r (useB (kindAt s r)) (fieldB s r)
 
     -- 2 to 6 for one record.
-    record-clears : Clear (recordGrounds full s A r) ↔ Sound
+    record-clears : Clear (recordGrounds ℓ s A r) ↔ Sound
     unfolding recordGrounds ground2 ground3 ground4 ground5 ground6
     record-clears = simp tests (
       λ (k, (((z, sa), sb), ((la, lb), ((ba, bb), ((ma, mb), u))))).
@@ -58,7 +58,7 @@ module _ (full : Bool) (s : List ℕ) (A : ℕ) where
     )
 
   -- All of them: the records are a tree.
-  pub clear-well-formed : Clear (formulaGrounds full s A) ↔ WellFormed full s A
+  pub clear-well-formed : Clear (formulaGrounds ℓ s A) ↔ WellFormed ℓ s A
   unfolding treeGrounds ground8 ground6-last ground7
   clear-well-formed = simp (clear-append, each-clears, ground1-fails, record-clears, tests) (
     λ ((w, m, f), (a, (h, (l, o)))). record {
@@ -80,14 +80,14 @@ module _ (full : Bool) (s : List ℕ) (A : ℕ) where
 
   -- ---- where the number is 0
   -- Each ground of a tree has a number above 0.
-  pub tree-numbered : Numbered (treeGrounds full s A)
+  pub tree-numbered : Numbered (treeGrounds ℓ s A)
   unfolding treeGrounds recordGrounds ground2 ground3 ground4 ground5 ground6 ground6-last ground7
   tree-numbered =
-      numbered-append (each _ (recordGrounds full s A)) (ground6-last s ∷ each _ (λ r. ground7 s r ∷ []))
+      numbered-append (each _ (recordGrounds ℓ s A)) (ground6-last s ∷ each _ (λ r. ground7 s r ∷ []))
       (numbered-each _ _ (λ r. omega arith)) (omega arith, numbered-each _ _ (λ r. omega arith))
 
   -- So the first number is 0 where the records are a tree, and only there.
-  pub accepted : (firstOf (formulaGrounds full s A) ≡ 0) ↔ WellFormed full s A
+  pub accepted : (firstOf (formulaGrounds ℓ s A) ≡ 0) ↔ WellFormed ℓ s A
   unfolding ground1 ground8
   accepted = (
     λ e. clear-well-formed .0 (none-clear _ (omega arith, (omega arith, tree-numbered)) e),
@@ -95,9 +95,9 @@ module _ (full : Bool) (s : List ℕ) (A : ℕ) where
   )
 
 -- Check takes the core kinds alone.
-pub check-accepts : (s : List ℕ) (A : ℕ) → (checkAnswer s A ≡ 0) ↔ WellFormed false s A
+pub check-accepts : (s : List ℕ) (A : ℕ) → (checkAnswer s A ≡ 0) ↔ WellFormed core s A
 unfolding checkAnswer checkGrounds
-check-accepts = accepted false
+check-accepts = accepted core
 
 -- ---- with the stars' grounds
 -- Each has a number above 0.
@@ -105,7 +105,7 @@ pub starred-numbered : (s : List ℕ) (A : ℕ) → Numbered (starredGrounds s A
 unfolding checkGrounds ground1 ground8 starGrounds ground11 ground12
 starred-numbered s A =
     let stars = numbered-each (λ r. ground12 s r ∷ ground11 s r ∷ []) (count s) (λ r. omega arith) in
-    (omega arith, (omega arith, numbered-append (treeGrounds false s A) (starGrounds s) (tree-numbered false s A) stars))
+    (omega arith, (omega arith, numbered-append (treeGrounds core s A) (starGrounds s) (tree-numbered core s A) stars))
 
 module _ (s : List ℕ) (A : ℕ) (e : firstOf (starredGrounds s A) ≡ 0) where
   -- So where the first number is 0, none applies, of check and of the stars:
@@ -113,9 +113,9 @@ module _ (s : List ℕ) (A : ℕ) (e : firstOf (starredGrounds s A) ≡ 0) where
   both-clear = clear-append (checkGrounds s A) (starGrounds s) .0 (none-clear (starredGrounds s A) (starred-numbered s A) e)
 
   -- the records are a tree,
-  pub starred-formed : WellFormed false s A
+  pub starred-formed : WellFormed core s A
   unfolding checkGrounds
-  starred-formed = clear-well-formed false s A .0 (both-clear .0)
+  starred-formed = clear-well-formed core s A .0 (both-clear .0)
 
   -- and no star is refused.
   pub stars-clear : (r : ℕ) → r < count s → Clear (ground12 s r ∷ ground11 s r ∷ [])

@@ -2,12 +2,11 @@
 -- has the atoms of its children, and a shorthand's expansion those of its arguments.
 --   formAtoms F, pathAtoms P    the least number that all their atoms are below
 use Prim.Native.Nat.{ℕ, zero, suc, _+_, _≤_, _<_, max}
-use mathlib.Core.Bool.{Bool}
 use mathlib.Core.List.{List}
 use native.Mathlib.Nat.{le-refl}
 use native.Mathlib.Omega.{arith}
-use Rattle.meaning.specs.Record.{Kind, Shorthand, negated, both, either, implies, end, beside, along, until, since, columnsOf, argumentsOf}
-use Rattle.meaning.specs.Record.{Use, unused, atomNumber, child, useA, useB, count, kindAt}
+use Rattle.meaning.specs.Record.{Kind, Shorthand, denied, both, either, implies, end, beside, along, until, since, columnsOf, argumentsOf}
+use Rattle.meaning.specs.Record.{Language, Use, unused, atomNumber, child, useA, useB, count, kindAt}
 use Rattle.meaning.specs.Formula.{Form, Path}
 use Rattle.meaning.specs.Shorthand.{expansion}
 use Rattle.meaning.specs.Tree.{Tree, asForm, asPath, nodeOf, treeAt, formAt}
@@ -42,7 +41,7 @@ module _ (A : ℕ) where
   expansion-atoms : (σ : Shorthand) (a b : ℕ) (t u : Tree) → Low (argumentsOf σ .0) a t → Low (argumentsOf σ .1) b u
       → formAtoms (expansion σ (asForm t) (asForm u)) ≤ A
   unfolding expansion argumentsOf formAtoms
-  expansion-atoms negated a b t u p q = omega arith
+  expansion-atoms denied a b t u p q = omega arith
   expansion-atoms both a b t u p q = omega arith
   expansion-atoms either a b t u p q = omega arith
   expansion-atoms implies a b t u p q = omega arith
@@ -67,7 +66,7 @@ module _ (A : ℕ) where
   node-atoms (Kind.shorthand σ) a b tree p q = omega (arith, expansion-atoms σ a b (tree a) (tree b) p q)
   node-atoms Kind.unknown a b tree p q = omega arith
 
-module _ {full : Bool} {s : List ℕ} {A : ℕ} (w : WellFormed full s A) where
+module _ {ℓ : Language} {s : List ℕ} {A : ℕ} (w : WellFormed ℓ s A) where
   -- A field that fits is low if the records before have low trees.
   field-low : (r : ℕ) → ((q : ℕ) → q < r → treeAtoms (treeAt s q) ≤ A) → (u : Use) (v : ℕ) → Fits s A r u v
       → Low A u v (treeAt s v)

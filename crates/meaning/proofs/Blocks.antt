@@ -1,13 +1,13 @@
 -- Records in postorder. A forest is a run of records that are sound, and each of them is the child of one place among them, but
 -- for the roots. Two forests side by side have the roots of both; and a record after a forest, whose fields are its roots,
 -- makes it a block: that record is its one root. So places add up, and no field has to be looked for.
---   Sound full e A r            what the checks ask of record r
---   Forest full e A n m roots   the records n .. m - 1 of e; roots r is 1 if r is one of the roots, else 0
---   Block full e A n m σ t      the same with one root, the last; it is of the sort σ, and its tree is t
+--   Sound ℓ e A r               what the checks ask of record r
+--   Forest ℓ e A n m roots      the records n .. m - 1 of e; roots r is 1 if r is one of the roots, else 0
+--   Block ℓ e A n m σ t         the same with one root, the last; it is of the sort σ, and its tree is t
 --   Leaf, Single, Double        a kind of the core whose node has no child, one, two
 use Prim.Native.Nat.{ℕ, zero, suc, pred, _+_, _≤_, _<_}
 use mathlib.Core.Path.{_≡_, refl, sym, _∙_}
-use mathlib.Core.Bool.{Bool, true, cond}
+use mathlib.Core.Bool.{true, cond}
 use mathlib.Core.Logic.{inl, inr}
 use mathlib.Core.List.{List}
 use native.Mathlib.Nat.{le-refl}
@@ -15,7 +15,7 @@ use native.Mathlib.Omega.{arith}
 use lib.ListN.{getD}
 use lib.Dec.{eqb}
 use borrow.Author.Tests.{eq-eqb, ne-eqb}
-use Rattle.meaning.specs.Record.{Kind, Sort, unused, child, useA, useB, sortOf, known, kindAt, zeroByte, fieldA, fieldB, names, uses, placesIn}
+use Rattle.meaning.specs.Record.{Language, Kind, Sort, unused, child, useA, useB, sortOf, known, kindAt, zeroByte, fieldA, fieldB, names, uses, placesIn}
 use Rattle.meaning.specs.Tree.{Tree, noTree, nodeOf, trees, treeAt}
 use Rattle.meaning.specs.WellFormed.{Fits}
 use Rattle.meaning.proofs.Bounds.{le-or-lt, below-suc}
@@ -48,10 +48,10 @@ seen-once r (suc m) l = elim (below-suc l) [
   | inr h ↦ omega (arith, seen-once r m h, one-other m r (omega arith))
 ]
 
-module _ (full : Bool) (e : List ℕ) (A : ℕ) where
+module _ (ℓ : Language) (e : List ℕ) (A : ℕ) where
   -- ---- forests
   pub record Sound (r : ℕ) : Type 0 where
-    pub kind : known full (kindAt e r) ≡ true
+    pub kind : known ℓ (kindAt e r) ≡ true
     pub zero-byte : zeroByte e r ≡ 0
     pub first : Fits e A r (useA (kindAt e r)) (fieldA e r)
     pub second : Fits e A r (useB (kindAt e r)) (fieldB e r)
@@ -92,7 +92,7 @@ module _ (full : Bool) (e : List ℕ) (A : ℕ) where
 
   -- A record after a forest whose roots its fields name.
   block-node : (n m a b : ℕ) (K : Kind) {p : ℕ → ℕ} {t : Tree} → n ≤ m → Forest n m p → Reads e m K a b
-      → known full K ≡ true → Fits e A m (useA K) a → Fits e A m (useB K) b
+      → known ℓ K ≡ true → Fits e A m (useA K) a → Fits e A m (useB K) b
       → ((r : ℕ) → names (useA K) a r + names (useB K) b r ≡ p r)
       → nodeOf K a b (λ q. getD (trees e m) q noTree) ≡ t → Block n (suc m) (sortOf K) t
   unfolding uses
@@ -112,20 +112,20 @@ module _ (full : Bool) (e : List ℕ) (A : ℕ) where
 
   -- ---- blocks by the number of children; t and u are the children's trees, v the node's
   pub record Leaf (K : Kind) (n a : ℕ) (v : Tree) : Type 0 where
-    pub core : known full K ≡ true
+    pub core : known ℓ K ≡ true
     pub first : Fits e A n (useA K) a
     pub none : (r : ℕ) → names (useA K) a r ≡ 0
     pub second : useB K ≡ unused
     pub node : (tree : ℕ → Tree) → nodeOf K a 0 tree ≡ v
 
   pub record Single (K : Kind) (σ : Sort) (t v : Tree) : Type 0 where
-    pub core : known full K ≡ true
+    pub core : known ℓ K ≡ true
     pub first : useA K ≡ child σ
     pub second : useB K ≡ unused
     pub node : (tree : ℕ → Tree) (a : ℕ) → tree a ≡ t → nodeOf K a 0 tree ≡ v
 
   pub record Double (K : Kind) (σ τ : Sort) (t u v : Tree) : Type 0 where
-    pub core : known full K ≡ true
+    pub core : known ℓ K ≡ true
     pub first : useA K ≡ child σ
     pub second : useB K ≡ child τ
     pub node : (tree : ℕ → Tree) (a b : ℕ) → tree a ≡ t → tree b ≡ u → nodeOf K a b tree ≡ v

@@ -3,12 +3,15 @@
 --   At e n part          from record n on, e has the bytes `part`
 --   Reads e r K a b      record r of e has the kind K, a zero byte, and the fields a and b
 use Prim.Native.Nat.{ℕ, _+_, _*_, _/_, _%_, _<_}
-use mathlib.Core.Path.{_≡_, _∙_}
+use mathlib.Core.Path.{_≡_, refl, _∙_}
+use mathlib.Core.Bool.{true, false}
 use mathlib.Core.List.{List, _++_}
 use native.Mathlib.Omega.{arith}
 use lib.ListN.{length, getD, length-append, List·getD-append}
 use lib.Seq.{getD-append-add}
-use Rattle.meaning.specs.Record.{recordSize, recordBytes, word, Kind, kindOf, kindByte, kindAt, zeroByte, fieldA, fieldB}
+use Rattle.meaning.specs.Record.{recordSize, recordBytes, twoBytes, kinds, kindOf, numberOf, shorthandNumber, kindByte, kindAt, zeroByte, fieldA, fieldB}
+use Rattle.meaning.specs.Record.{Kind, constant, atom, modal, move, test, choice, sequence, star, shorthand, unknown}
+use Rattle.meaning.specs.Record.{diamond, box, ahead, back, denied, both, either, implies, end, beside, along, until, since}
 
 pub record At (e : List ℕ) (n : ℕ) (part : List ℕ) : Type 0 where
   pub byte : (i : ℕ) → i < length part → getD e (recordSize * n + i) 0 ≡ getD part i 0
@@ -19,9 +22,42 @@ pub record Reads (e : List ℕ) (r : ℕ) (K : Kind) (a b : ℕ) : Type 0 where
   pub first : fieldA e r ≡ a
   pub second : fieldB e r ≡ b
 
+-- ---- kinds by number, and back
+kind-again : (K : Kind) → kindOf (numberOf K) ≡ K
+unfolding kinds kindOf numberOf shorthandNumber
+kind-again (constant false) = refl
+kind-again (constant true) = refl
+kind-again atom = refl
+kind-again (modal diamond) = refl
+kind-again (modal box) = refl
+kind-again (move ahead) = refl
+kind-again (move back) = refl
+kind-again test = refl
+kind-again choice = refl
+kind-again sequence = refl
+kind-again star = refl
+kind-again (shorthand denied) = refl
+kind-again (shorthand both) = refl
+kind-again (shorthand either) = refl
+kind-again (shorthand implies) = refl
+kind-again (shorthand (end ahead)) = refl
+kind-again (shorthand (end back)) = refl
+kind-again (shorthand (beside ahead diamond)) = refl
+kind-again (shorthand (beside ahead box)) = refl
+kind-again (shorthand (beside back diamond)) = refl
+kind-again (shorthand (beside back box)) = refl
+kind-again (shorthand (along ahead diamond)) = refl
+kind-again (shorthand (along ahead box)) = refl
+kind-again (shorthand (along back diamond)) = refl
+kind-again (shorthand (along back box)) = refl
+kind-again (shorthand until) = refl
+kind-again (shorthand since) = refl
+kind-again unknown = refl
+
+-- ---- records
 -- Two bytes that hold a number.
-word-read : (e : List ℕ) (i v : ℕ) → getD e i 0 ≡ v % 256 → getD e (i + 1) 0 ≡ v / 256 → word e i ≡ v
-word-read e i v low high = omega arith
+two-read : (e : List ℕ) (i v : ℕ) → getD e i 0 ≡ v % 256 → getD e (i + 1) 0 ≡ v / 256 → twoBytes e i ≡ v
+two-read e i v low high = omega arith
 
 -- All bytes.
 pub at-start : (e : List ℕ) → At e 0 e
@@ -40,15 +76,15 @@ module _ {e : List ℕ} {n : ℕ} where
   }
 
   -- One record.
-  pub at-record : {K : Kind} (number a b : ℕ) → kindOf number ≡ K → At e n (recordBytes number a b) → Reads e n K a b
-  at-record number a b known at =
+  pub at-record : (K : Kind) (a b : ℕ) → At e n (recordBytes K a b) → Reads e n K a b
+  at-record K a b at =
       let start : recordSize * n + 0 ≡ recordSize * n = omega arith in
       let third : recordSize * n + 3 ≡ recordSize * n + 2 + 1 = omega arith in
       let fifth : recordSize * n + 5 ≡ recordSize * n + 4 + 1 = omega arith in
-      let k : kindByte e n ≡ number = rw start at (at .byte 0 (omega arith)) in
+      let k : kindByte e n ≡ numberOf K = rw start at (at .byte 0 (omega arith)) in
       record {
-        kind = rw k known;
+        kind = rw k (kind-again K);
         zero-byte = at .byte 1 (omega arith);
-        first = word-read e _ a (at .byte 2 (omega arith)) (rw third at (at .byte 3 (omega arith)));
-        second = word-read e _ b (at .byte 4 (omega arith)) (rw fifth at (at .byte 5 (omega arith)));
+        first = two-read e _ a (at .byte 2 (omega arith)) (rw third at (at .byte 3 (omega arith)));
+        second = two-read e _ b (at .byte 4 (omega arith)) (rw fifth at (at .byte 5 (omega arith)));
       }

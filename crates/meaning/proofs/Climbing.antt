@@ -11,13 +11,13 @@ use native.Mathlib.Omega.{arith}
 use lib.Dec.{eqb}
 use borrow.Author.Tests.{eq-eqb, ne-eqb}
 use Rattle.meaning.specs.Record.{Kind, constant, atom, modal, move, test, choice, sequence, star, shorthand, unknown, columnsOf}
-use Rattle.meaning.specs.Record.{count, kindAt, fieldA, fieldB, Sort, child, useA, useB, path, sortOf, known, names, uses, parent}
+use Rattle.meaning.specs.Record.{core, count, kindAt, fieldA, fieldB, Sort, child, useA, useB, path, sortOf, known, names, uses, parent}
 use Rattle.meaning.specs.Translation.{Context, under, handed, contextIn, context}
 use Rattle.meaning.specs.WellFormed.{Fits, WellFormed}
 use Rattle.meaning.proofs.Bounds.{le-or-lt}
 use Rattle.meaning.proofs.Parents.{InSecond, first-used, second-used, one-field, has-parent, child-earlier, parent-is}
 
-module _ {s : List ℕ} {A : ℕ} (w : WellFormed false s A) where
+module _ {s : List ℕ} {A : ℕ} (w : WellFormed core s A) where
   -- A path isn't the last record.
   pub path-before : (r : ℕ) → r < count s → sortOf (kindAt s r) ≡ path → suc r < count s
   path-before r l e = elim (le-or-lt (count s) (suc r)) [
@@ -31,7 +31,7 @@ module _ {s : List ℕ} {A : ℕ} (w : WellFormed false s A) where
 
   -- If that is so of record q where q is a path, it is so of each child r of q, by q's kind K and its fields a and b.
   hands : (K : Kind) (first : Bool) (a b q r : ℕ) (u v : Context)
-      → q < count s → known false K ≡ true → Fits s A q (useB K) b → 0 < names (useA K) a r + names (useB K) b r
+      → q < count s → known core K ≡ true → Fits s A q (useB K) b → 0 < names (useA K) a r + names (useB K) b r
       → (sortOf K ≡ path → Settled u v) → Settled (handed K first b q u) (handed K first b q v)
   unfolding handed columnsOf names known
   hands (constant x) first a b q r u v l k f n h = absurd (omega arith)

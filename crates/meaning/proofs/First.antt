@@ -2,56 +2,77 @@
 -- after one that has given its number does not. So a scan that goes on while nothing was found gives the first number of the whole list.
 use Prim.Native.Nat.{ℕ, zero, suc, _+_, _<_}
 use mathlib.Core.Path.{_≡_, refl, sym, _∙_}
-use mathlib.Core.Bool.{Bool, true, false, cond}
+use mathlib.Core.Bool.{Bool, true, false}
 use mathlib.Core.Logic.{_⊎_, inl, inr, ⊎-elim, _↔_}
 use mathlib.Core.List.{List, [], _∷_, _++_}
 use native.Mathlib.Nat.{le-refl, eq-or-lt-of-le, le-of-suc-le-suc}
 use native.Mathlib.Numerals.{add-one}
 use native.Mathlib.Omega.{arith}
 use Rattle.meaning.specs.Run.{each}
-use Rattle.meaning.specs.Refusal.{Ground, firstOf}
+use Rattle.meaning.specs.Refusal.{Ground, ofFirst, firstOf}
 
 -- No ground applies.
 abbrev pub Clear : List Ground → Type 0
 Clear [] = Unit {0}
 Clear (g ∷ gs) = (g .applies ≡ false) × Clear gs
 
+-- A test holds or fails.
+by-test : (b : Bool) → (b ≡ true) ⊎ (b ≡ false)
+by-test true = inl refl
+by-test false = inr refl
+
 -- Each ground has a number, that is, one above 0.
 abbrev pub Numbered : List Ground → Type 0
 Numbered [] = Unit {0}
 Numbered (g ∷ gs) = (0 < g .number) × Numbered gs
 
-pub clear-none : (gs : List Ground) → Clear gs → firstOf gs ≡ 0
-unfolding firstOf
-clear-none [] c = refl
-clear-none (g ∷ gs) c = rw (c .0) (clear-none gs (c .1))
+-- ---- what is asked of the first that applies
+module _ (what : Ground → ℕ) where
+  pub of-none : (gs : List Ground) → Clear gs → ofFirst what gs ≡ 0
+  unfolding ofFirst
+  of-none [] c = refl
+  of-none (g ∷ gs) c = rw (c .0) (of-none gs (c .1))
 
--- A ground's own place in the list: it gives its number, or the rest decides.
-by-ground : (g : Ground) (v : ℕ) → ((g .applies ≡ true) × (cond (g .applies) (g .number) v ≡ g .number)) ⊎ ((g .applies ≡ false) × (cond (g .applies) (g .number) v ≡ v))
-by-ground g v = go (g .applies)
-  where
-    go : (b : Bool) → ((b ≡ true) × (cond b (g .number) v ≡ g .number)) ⊎ ((b ≡ false) × (cond b (g .number) v ≡ v))
-    go true = inl (refl, refl)
-    go false = inr (refl, refl)
+  -- After a clear list, the rest decides.
+  pub of-skip : (gs hs : List Ground) → Clear gs → ofFirst what (gs ++ hs) ≡ ofFirst what hs
+  unfolding ofFirst
+  of-skip [] hs c = refl
+  of-skip (g ∷ gs) hs c = rw (c .0) (of-skip gs hs (c .1))
+
+  -- After a number that was found, nothing does.
+  pub of-stop : (gs hs : List Ground) → (firstOf gs ≡ 0 → ⊥) → ofFirst what (gs ++ hs) ≡ ofFirst what gs
+  unfolding ofFirst
+  of-stop [] hs f = absurd (f refl)
+  of-stop (g ∷ gs) hs f =
+      elim (by-test (g .applies)) [ inl h ↦ rw h | inr h ↦ rw h (of-stop gs hs (λ e. f (rw h e))) ]
+
+-- ---- its number
+pub clear-none : (gs : List Ground) → Clear gs → firstOf gs ≡ 0
+clear-none = of-none _
+
+pub clear-skip : (gs hs : List Ground) → Clear gs → firstOf (gs ++ hs) ≡ firstOf hs
+clear-skip = of-skip _
+
+pub found-stop : (gs hs : List Ground) → (firstOf gs ≡ 0 → ⊥) → firstOf (gs ++ hs) ≡ firstOf gs
+found-stop = of-stop _
+
+-- One ground: it gives its number, or the rest decides; t is the test as the code made it.
+module _ {x : ℕ} {t : Bool} (g : Ground) (gs : List Ground) (first : x ≡ firstOf (g ∷ gs)) (test : t ≡ g .applies) where
+  pub stop : t ≡ true → g .number ≡ x
+  unfolding ofFirst
+  stop e = sym (first ∙ rw (sym test ∙ e))
+
+  pub pass : t ≡ false → x ≡ firstOf gs
+  unfolding ofFirst
+  pass e = first ∙ rw (sym test ∙ e)
 
 pub none-clear : (gs : List Ground) → Numbered gs → firstOf gs ≡ 0 → Clear gs
-unfolding firstOf
+unfolding ofFirst
 none-clear [] n e = tt
-none-clear (g ∷ gs) n e =
-    ⊎-elim (λ h. absurd (omega (arith, h .1, n .0))) (λ h. (h .0, none-clear gs (n .1) (sym (h .1) ∙ e))) (by-ground g (firstOf gs))
-
--- After a clear list, the rest decides.
-pub clear-skip : (gs hs : List Ground) → Clear gs → firstOf (gs ++ hs) ≡ firstOf hs
-unfolding firstOf
-clear-skip [] hs c = refl
-clear-skip (g ∷ gs) hs c = rw (c .0) (clear-skip gs hs (c .1))
-
--- After a number that was found, nothing does.
-pub found-stop : (gs hs : List Ground) → (firstOf gs ≡ 0 → ⊥) → firstOf (gs ++ hs) ≡ firstOf gs
-unfolding firstOf
-found-stop [] hs f = absurd (f refl)
-found-stop (g ∷ gs) hs f =
-    ⊎-elim (λ h. rw (h .0)) (λ h. rw (h .0) (found-stop gs hs (λ e. f (h .1 ∙ e)))) (by-ground g (firstOf gs))
+none-clear (g ∷ gs) n e = elim (by-test (g .applies)) [
+  | inl h ↦ absurd (omega (arith, rw h at e, n .0))
+  | inr h ↦ (h, none-clear gs (n .1) (rw h at e))
+]
 
 pub clear-append : (gs hs : List Ground) → Clear (gs ++ hs) ↔ (Clear gs × Clear hs)
 clear-append [] hs = (λ c. (tt, c), λ c. c .1)
@@ -62,16 +83,6 @@ clear-append (g ∷ gs) hs =
 pub numbered-append : (gs hs : List Ground) → Numbered gs → Numbered hs → Numbered (gs ++ hs)
 numbered-append [] hs n m = m
 numbered-append (g ∷ gs) hs n m = (n .0, numbered-append gs hs (n .1) m)
-
--- One ground: it gives its number, or the rest decides; t is the test as the code made it.
-module _ {x : ℕ} {t : Bool} (g : Ground) (gs : List Ground) (first : x ≡ firstOf (g ∷ gs)) (test : t ≡ g .applies) where
-  pub stop : t ≡ true → g .number ≡ x
-  unfolding firstOf
-  stop e = sym (first ∙ rw (sym test ∙ e))
-
-  pub pass : t ≡ false → x ≡ firstOf gs
-  unfolding firstOf
-  pass e = first ∙ rw (sym test ∙ e)
 
 -- ---- the grounds of each record, or of each rule or cell, in turn
 module _ (f : ℕ → List Ground) where

@@ -2,7 +2,6 @@
 -- and a node looks at a tree only where a field is a child, which in well-formed records is an earlier record.
 use Prim.Native.Nat.{ℕ, zero, suc, _<_}
 use mathlib.Core.Path.{_≡_, refl, ap, _∙_}
-use mathlib.Core.Bool.{Bool}
 use mathlib.Core.Logic.{_⊎_, inl, inr, ⊎-elim}
 use mathlib.Core.List.{List}
 use native.Mathlib.Nat.{eq-or-lt-of-le, le-of-suc-le-suc}
@@ -10,9 +9,9 @@ use native.Mathlib.Omega.{arith}
 use lib.ListN.{length, getD, length-append, List·getD-append}
 use lib.Seq.{getD-at}
 use Rattle.meaning.specs.Record.{Kind, constant, atom, modal, move, test, choice, sequence, star, shorthand, unknown, columnsOf, argumentsOf}
-use Rattle.meaning.specs.Record.{Shorthand, negated, both, either, implies, end, beside, along, until, since}
+use Rattle.meaning.specs.Record.{Shorthand, denied, both, either, implies, end, beside, along, until, since}
 use Rattle.meaning.specs.Record.{Use, unused, atomNumber, child, useA, useB, Sort, sortOf}
-use Rattle.meaning.specs.Record.{count, kindAt, fieldA, fieldB}
+use Rattle.meaning.specs.Record.{Language, count, kindAt, fieldA, fieldB}
 use Rattle.meaning.specs.Shorthand.{expansion}
 use Rattle.meaning.specs.Tree.{Tree, noTree, asForm, asPath, nodeOf, trees, treeAt, formAt, pathAt}
 use Rattle.meaning.specs.WellFormed.{Fits, WellFormed}
@@ -51,7 +50,7 @@ Agree (child σ) t t′ = t ≡ t′
 expansion-agrees : (σ : Shorthand) (t t′ u u′ : Tree) → Agree (argumentsOf σ .0) t t′ → Agree (argumentsOf σ .1) u u′
     → expansion σ (asForm t) (asForm u) ≡ expansion σ (asForm t′) (asForm u′)
 unfolding expansion argumentsOf
-expansion-agrees negated t t′ u u′ p q = cc
+expansion-agrees denied t t′ u u′ p q = cc
 expansion-agrees both t t′ u u′ p q = cc
 expansion-agrees either t t′ u u′ p q = cc
 expansion-agrees implies t t′ u u′ p q = cc
@@ -84,7 +83,7 @@ child-settled s A r atomNumber v f = tt
 child-settled s A r (child σ) v f = trees-settled s r v (f .0)
 
 -- The tree of a well-formed record is its node over the trees of its children.
-pub tree-of : {full : Bool} {s : List ℕ} {A : ℕ} → WellFormed full s A → (r : ℕ) → r < count s
+pub tree-of : {ℓ : Language} {s : List ℕ} {A : ℕ} → WellFormed ℓ s A → (r : ℕ) → r < count s
     → treeAt s r ≡ nodeOf (kindAt s r) (fieldA s r) (fieldB s r) (treeAt s)
 tree-of {s} {A} w r l =
     let K = kindAt s r in
@@ -93,7 +92,7 @@ tree-of {s} {A} w r l =
     tree-node s r ∙ node-agrees K _ _ _ _ a b
 
 -- So is its formula, or its path, by its kind.
-module _ {full : Bool} {s : List ℕ} {A r : ℕ} (w : WellFormed full s A) (l : r < count s) where
+module _ {ℓ : Language} {s : List ℕ} {A r : ℕ} (w : WellFormed ℓ s A) (l : r < count s) where
   pub form-node : {K : Kind} → kindAt s r ≡ K → formAt s r ≡ asForm (nodeOf K (fieldA s r) (fieldB s r) (treeAt s))
   form-node e = ap asForm (rw e at (tree-of w r l))
 

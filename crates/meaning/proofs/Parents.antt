@@ -3,7 +3,7 @@
 -- its fields alone.
 use Prim.Native.Nat.{ℕ, zero, suc, _<_, _≤_}
 use mathlib.Core.Path.{_≡_, refl, sym}
-use mathlib.Core.Bool.{Bool, cond}
+use mathlib.Core.Bool.{cond}
 use mathlib.Core.Logic.{_⊎_, inl, inr}
 use mathlib.Core.List.{List}
 use native.Mathlib.Decide.{ℕ-discrete}
@@ -11,7 +11,7 @@ use native.Mathlib.Nat.{le-refl}
 use native.Mathlib.Omega.{arith}
 use lib.Dec.{eqb}
 use borrow.Author.Tests.{eq-eqb, ne-eqb}
-use Rattle.meaning.specs.Record.{count, kindAt, fieldA, fieldB, Sort, Use, unused, atomNumber, child, useA, useB, names, uses, placesIn, parentIn, parent}
+use Rattle.meaning.specs.Record.{Language, count, kindAt, fieldA, fieldB, Sort, Use, unused, atomNumber, child, useA, useB, names, uses, placesIn, parentIn, parent}
 use Rattle.meaning.specs.WellFormed.{WellFormed}
 use Rattle.meaning.proofs.Bounds.{le-or-lt, below-suc}
 
@@ -96,7 +96,7 @@ module _ (s : List ℕ) (q : ℕ) where
   ]
 
 -- ---- in a tree
-module _ {full : Bool} {s : List ℕ} {A : ℕ} (w : WellFormed full s A) where
+module _ {ℓ : Language} {s : List ℕ} {A : ℕ} (w : WellFormed ℓ s A) where
   -- A record before the last has a parent.
   pub has-parent : (q : ℕ) → suc q < count s → (parent s q < count s) × (0 < uses s q (parent s q))
   has-parent q l = parent-of s q (count s) (omega (arith, w .once q l))

@@ -36,7 +36,7 @@ module _ (L : ℕ) (cell : ℕ → ℕ → ℕ) (cells : (k i : ℕ) → k < L �
   worth σ = row (expansion σ F G) k
 
   -- ---- tests
-  not-value : worth Shorthand.negated ≡ negation (row F k)
+  not-value : worth Shorthand.denied ≡ negation (row F k)
   unfolding expansion valueOf squareOf gate
   not-value = modal-test box L (row F) _ k l zero-le ∙ imp-false (row F k)
 

@@ -4,12 +4,13 @@
 --   count s                     how many records s has
 --   kindAt s r                  the kind of record r
 --   zeroByte, fieldA, fieldB    the other parts of record r
+--   kindOf number, numberOf kind   a kind by its number, and back
 --   recordBytes kind a b        the bytes of one record
 --   columnsOf kind              the table's row: whether such a record is a formula or a path, and what its fields hold
 --   sortOf kind, useA kind, useB kind   its three columns
 --   uses s r q                  in how many fields of record q the record r is the child
 --   places s r, parent s r      in how many places of all records; the record of that place
---   known full kind             whether a service takes the kind: `full` is true for the expander
+--   known language kind         whether the kind is one of the language
 use Prim.Native.Nat.{ℕ, zero, suc, _+_, _*_, _/_, _%_}
 use mathlib.Core.Bool.{Bool, true, false, cond}
 use mathlib.Core.List.{List, [], _∷_, _++_}
@@ -27,8 +28,8 @@ abbrev pub count : List ℕ → ℕ
 count s = length s / recordSize
 
 -- Two bytes, low byte first.
-abbrev pub word : List ℕ → ℕ → ℕ
-word s i = getD s i 0 + 256 * getD s (i + 1) 0
+abbrev pub twoBytes : List ℕ → ℕ → ℕ
+twoBytes s i = getD s i 0 + 256 * getD s (i + 1) 0
 
 abbrev pub kindByte : List ℕ → ℕ → ℕ
 kindByte s r = getD s (recordSize * r) 0
@@ -37,13 +38,14 @@ abbrev pub zeroByte : List ℕ → ℕ → ℕ
 zeroByte s r = getD s (recordSize * r + 1) 0
 
 abbrev pub fieldA : List ℕ → ℕ → ℕ
-fieldA s r = word s (recordSize * r + 2)
+fieldA s r = twoBytes s (recordSize * r + 2)
 
 abbrev pub fieldB : List ℕ → ℕ → ℕ
-fieldB s r = word s (recordSize * r + 4)
+fieldB s r = twoBytes s (recordSize * r + 4)
 
-abbrev pub recordBytes : ℕ → ℕ → ℕ → List ℕ
-recordBytes kind a b = kind ∷ 0 ∷ a % 256 ∷ a / 256 ∷ b % 256 ∷ b / 256 ∷ []
+-- The bytes of a record whose kind has this number.
+abbrev pub bytesOf : ℕ → ℕ → ℕ → List ℕ
+bytesOf number a b = number ∷ 0 ∷ a % 256 ∷ a / 256 ∷ b % 256 ∷ b / 256 ∷ []
 
 -- ---- kinds; those that the document lists in pairs differ in a parameter
 pub data Sort : Type 0 where
@@ -58,7 +60,7 @@ pub data Way : Type 0 where
 
 -- `end` is final and initial; `beside` next, weak next, previous and weak previous; `along` eventually, always, once and so far.
 pub data Shorthand : Type 0 where
-  negated both either implies : Shorthand
+  denied both either implies : Shorthand
   end : Way → Shorthand
   beside along : Way → Mode → Shorthand
   until since : Shorthand
@@ -77,7 +79,7 @@ unfoldable pub kinds : List Kind
 kinds =
     (constant false ∷ constant true ∷ atom ∷ modal diamond ∷ modal box ∷ move ahead ∷ move back ∷ test ∷ choice ∷ sequence ∷ star ∷ [])
     ++ replicate 21 unknown
-    ++ (shorthand negated ∷ shorthand both ∷ shorthand either ∷ shorthand implies ∷ shorthand (end ahead) ∷ shorthand (end back)
+    ++ (shorthand denied ∷ shorthand both ∷ shorthand either ∷ shorthand implies ∷ shorthand (end ahead) ∷ shorthand (end back)
     ∷ shorthand (beside ahead diamond) ∷ shorthand (beside ahead box) ∷ shorthand (beside back diamond) ∷ shorthand (beside back box)
     ∷ shorthand (along ahead diamond) ∷ shorthand (along ahead box) ∷ shorthand (along back diamond) ∷ shorthand (along back box)
     ∷ shorthand until ∷ shorthand since ∷ [])
@@ -87,6 +89,43 @@ kindOf number = getD kinds number unknown
 
 abbrev pub kindAt : List ℕ → ℕ → Kind
 kindAt s r = kindOf (kindByte s r)
+
+-- And back: kindOf (numberOf κ) is κ (proofs/Bytes). A number that no kind has stands for the unknown.
+unfoldable pub shorthandNumber : Shorthand → ℕ
+shorthandNumber denied = 32
+shorthandNumber both = 33
+shorthandNumber either = 34
+shorthandNumber implies = 35
+shorthandNumber (end ahead) = 36
+shorthandNumber (end back) = 37
+shorthandNumber (beside ahead diamond) = 38
+shorthandNumber (beside ahead box) = 39
+shorthandNumber (beside back diamond) = 40
+shorthandNumber (beside back box) = 41
+shorthandNumber (along ahead diamond) = 42
+shorthandNumber (along ahead box) = 43
+shorthandNumber (along back diamond) = 44
+shorthandNumber (along back box) = 45
+shorthandNumber until = 46
+shorthandNumber since = 47
+
+unfoldable pub numberOf : Kind → ℕ
+numberOf (constant false) = 0
+numberOf (constant true) = 1
+numberOf atom = 2
+numberOf (modal diamond) = 3
+numberOf (modal box) = 4
+numberOf (move ahead) = 5
+numberOf (move back) = 6
+numberOf test = 7
+numberOf choice = 8
+numberOf sequence = 9
+numberOf star = 10
+numberOf (shorthand σ) = shorthandNumber σ
+numberOf unknown = 48
+
+abbrev pub recordBytes : Kind → ℕ → ℕ → List ℕ
+recordBytes κ a b = bytesOf (numberOf κ) a b
 
 -- ---- the table's columns: a record's sort, and what its fields a and b hold
 pub data Use : Type 0 where
@@ -103,7 +142,7 @@ columns sort a b = record { sort = sort; a = a; b = b }
 
 -- Kinds 36 and 37 have no argument, 32 and 38 to 45 have one, the others two.
 unfoldable pub argumentsOf : Shorthand → Use × Use
-argumentsOf negated = (child formula, unused)
+argumentsOf denied = (child formula, unused)
 argumentsOf both = (child formula, child formula)
 argumentsOf either = (child formula, child formula)
 argumentsOf implies = (child formula, child formula)
@@ -134,17 +173,22 @@ useA κ = columnsOf κ .a
 abbrev pub useB : Kind → Use
 useB κ = columnsOf κ .b
 
-unfoldable pub known : Bool → Kind → Bool
-known full (constant v) = true
-known full atom = true
-known full (modal m) = true
-known full (move w) = true
-known full test = true
-known full choice = true
-known full sequence = true
-known full star = true
-known full (shorthand σ) = full
-known full unknown = false
+-- ---- the two languages: the core kinds alone, or shorthands too
+pub data Language : Type 0 where
+  core full : Language
+
+unfoldable pub known : Language → Kind → Bool
+known ℓ (constant v) = true
+known ℓ atom = true
+known ℓ (modal m) = true
+known ℓ (move w) = true
+known ℓ test = true
+known ℓ choice = true
+known ℓ sequence = true
+known ℓ star = true
+known core (shorthand σ) = false
+known full (shorthand σ) = true
+known ℓ unknown = false
 
 -- ---- parents
 -- 1 if a field of this use that holds v has r as its child, else 0.

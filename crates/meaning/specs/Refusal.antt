@@ -1,6 +1,7 @@
 -- Specification, Refusals: each condition by its number, each service's order as a list of them.
 --   Ground            a number to give back, and whether it applies
---   firstOf grounds   the number of the first that applies, 0 if none does
+--   ofFirst what grounds   what is asked of the first that applies, 0 if none does
+--   firstOf grounds   its number
 --   ground1 ..        the conditions, s being the record bytes, r a record, A the number of atoms
 --   checkGrounds ..   a service's conditions in their order
 use Prim.Native.Nat.{ℕ, pred, _+_, _*_, _%_}
@@ -9,7 +10,7 @@ use mathlib.Core.List.{List, [], _∷_, _++_}
 use lib.ListN.{length, getD}
 use lib.Dec.{leb, ltb, eqb}
 use Rattle.meaning.specs.Run.{each}
-use Rattle.meaning.specs.Record.{recordSize, mostRecords, count, zeroByte, fieldA, fieldB, kindAt, Kind, Sort, Use, unused, atomNumber, child, useA, useB, sortOf, known, ahead, back, places}
+use Rattle.meaning.specs.Record.{Language, core, full, recordSize, mostRecords, count, zeroByte, fieldA, fieldB, kindAt, Kind, Sort, Use, unused, atomNumber, child, useA, useB, sortOf, known, ahead, back, places}
 use Rattle.meaning.specs.Formula.{mayStand, goes}
 use Rattle.meaning.specs.Tree.{formAt, pathAt, formSize}
 use Rattle.meaning.specs.Rule.{Rule, ruleSize, ruleAt, symbolOf, isPrevious}
@@ -23,9 +24,12 @@ pub record Ground : Type 0 where
 abbrev pub ground : ℕ → Bool → Ground
 ground n b = record { number = n; applies = b }
 
-unfoldable pub firstOf : List Ground → ℕ
-firstOf [] = 0
-firstOf (g ∷ gs) = cond (g .applies) (g .number) (firstOf gs)
+unfoldable pub ofFirst : (Ground → ℕ) → List Ground → ℕ
+ofFirst what [] = 0
+ofFirst what (g ∷ gs) = cond (g .applies) (what g) (ofFirst what gs)
+
+abbrev pub firstOf : List Ground → ℕ
+firstOf = ofFirst (λ g. g .number)
 
 -- ---- the record bytes
 -- 1: empty, not a multiple of a record's size, or too many.
@@ -33,8 +37,8 @@ unfoldable pub ground1 : List ℕ → Ground
 ground1 s = ground 1 (eqb (length s) 0 || not (eqb (length s % recordSize) 0) || ltb (recordSize * mostRecords) (length s))
 
 -- 2: a kind that this service does not know.
-unfoldable pub ground2 : Bool → List ℕ → ℕ → Ground
-ground2 full s r = ground 2 (not (known full (kindAt s r)))
+unfoldable pub ground2 : Language → List ℕ → ℕ → Ground
+ground2 ℓ s r = ground 2 (not (known ℓ (kindAt s r)))
 
 -- 3: the zero byte or an unused field isn't zero.
 unfoldable pub stray : Use → ℕ → Bool
@@ -161,28 +165,28 @@ abbrev pub wholeForm : List ℕ → ℕ
 wholeForm s = formSize (formAt s (pred (count s)))
 
 -- Records from the first, each 2, 3, 4, 5, 6; the last record's sort; 7.
-unfoldable pub recordGrounds : Bool → List ℕ → ℕ → ℕ → List Ground
-recordGrounds full s A r = ground2 full s r ∷ ground3 s r ∷ ground4 s r ∷ ground5 s A r ∷ ground6 s r ∷ []
+unfoldable pub recordGrounds : Language → List ℕ → ℕ → ℕ → List Ground
+recordGrounds ℓ s A r = ground2 ℓ s r ∷ ground3 s r ∷ ground4 s r ∷ ground5 s A r ∷ ground6 s r ∷ []
 
-unfoldable pub treeGrounds : Bool → List ℕ → ℕ → List Ground
-treeGrounds full s A = each (count s) (recordGrounds full s A) ++ (ground6-last s ∷ each (pred (count s)) (λ r. ground7 s r ∷ []))
+unfoldable pub treeGrounds : Language → List ℕ → ℕ → List Ground
+treeGrounds ℓ s A = each (count s) (recordGrounds ℓ s A) ++ (ground6-last s ∷ each (pred (count s)) (λ r. ground7 s r ∷ []))
 
 unfoldable pub starGrounds : List ℕ → List Ground
 starGrounds s = each (count s) (λ r. ground12 s r ∷ ground11 s r ∷ [])
 
 -- What the services without a trace ask of the formula.
-abbrev pub formulaGrounds : Bool → List ℕ → ℕ → List Ground
-formulaGrounds full s A = ground1 s ∷ ground8 A ∷ treeGrounds full s A
+abbrev pub formulaGrounds : Language → List ℕ → ℕ → List Ground
+formulaGrounds ℓ s A = ground1 s ∷ ground8 A ∷ treeGrounds ℓ s A
 
 unfoldable pub checkGrounds : List ℕ → ℕ → List Ground
-checkGrounds s A = formulaGrounds false s A
+checkGrounds s A = formulaGrounds core s A
 
 unfoldable pub expandGrounds : List ℕ → ℕ → ℕ → List Ground
-expandGrounds s A room = formulaGrounds true s A ++ (ground14 (wholeForm s) ∷ ground10 (recordSize * wholeForm s) room ∷ [])
+expandGrounds s A room = formulaGrounds full s A ++ (ground14 (wholeForm s) ∷ ground10 (recordSize * wholeForm s) room ∷ [])
 
 unfoldable pub valueGrounds : List ℕ → ℕ → ℕ → List ℕ → ℕ → List Ground
 valueGrounds s A L cells room =
-    ground1 s ∷ ground8-cells mostAtoms A L cells ∷ treeGrounds false s A ++ (grounds9 cells ++ (ground10 (count s * L) room ∷ []))
+    ground1 s ∷ ground8-cells mostAtoms A L cells ∷ treeGrounds core s A ++ (grounds9 cells ++ (ground10 (count s * L) room ∷ []))
 
 -- What the translator asks of the formula, and then of the room.
 abbrev pub starredGrounds : List ℕ → ℕ → List Ground

@@ -82,11 +82,11 @@ pub record Judged : Type 0 where
 abbrev pub judged : ℕ → ℕ → ℕ → ℕ → Judged
 judged refusal holds rule instant = record { refusal = refusal; holds = holds; rule = rule; instant = instant }
 
-unfoldable pub told : Verdict → Judged
-told Verdict.yes = judged 0 1 0 0
-told (Verdict.no i k) = judged 0 0 i k
+unfoldable pub judgment : Verdict → Judged
+judgment Verdict.yes = judged 0 1 0 0
+judgment (Verdict.no i k) = judged 0 0 i k
 
 unfoldable pub judgeAnswer : List ℕ → ℕ → ℕ → List ℕ → Judged
 judgeAnswer ws W L cells =
     let refusal = firstOf (judgeGrounds ws W L cells) in
-    accepted refusal (told (verdict ws L (cellOf W cells))) (judged refusal 0 0 0)
+    accepted refusal (judgment (verdict ws L (cellOf W cells))) (judged refusal 0 0 0)

@@ -1,10 +1,10 @@
 -- Specification, Records: what each shorthand stands for. F and G are its arguments.
 use mathlib.Core.Bool.{true, false}
-use Rattle.meaning.specs.Record.{Shorthand, negated, both, either, implies, end, beside, along, until, since, diamond, box, ahead, back}
+use Rattle.meaning.specs.Record.{Shorthand, denied, both, either, implies, end, beside, along, until, since, diamond, box, ahead, back}
 use Rattle.meaning.specs.Formula.{Form, constant, modal, move, test, choice, sequence, star}
 
 unfoldable pub expansion : Shorthand → Form → Form → Form
-expansion negated F G = modal box (test F) (constant false)
+expansion denied F G = modal box (test F) (constant false)
 expansion both F G = modal diamond (test F) G
 expansion either F G = modal diamond (choice (test F) (test G)) (constant true)
 expansion implies F G = modal box (test F) G

@@ -3,10 +3,10 @@
 --   formSize F, pathSize P    how many records they take
 --   postorder F               the records of F: those of a, those of b, then the parent
 use Prim.Native.Nat.{ℕ, zero, suc, pred, _+_}
-use mathlib.Core.Bool.{false, cond}
+use mathlib.Core.Bool.{false}
 use mathlib.Core.List.{List, [], _∷_, _++_}
 use lib.ListN.{getD}
-use Rattle.meaning.specs.Record.{Kind, Mode, diamond, box, Way, ahead, back, kindAt, fieldA, fieldB, recordBytes}
+use Rattle.meaning.specs.Record.{Kind, ahead, kindAt, fieldA, fieldB, recordBytes}
 use Rattle.meaning.specs.Formula.{Form, Path}
 use Rattle.meaning.specs.Shorthand.{expansion}
 
@@ -68,28 +68,20 @@ unfoldable mutual
   pathSize (Path.sequence p q) = pathSize p + pathSize q + 1
   pathSize (Path.star p) = pathSize p + 1
 
-unfoldable pub modalNumber : Mode → ℕ
-modalNumber diamond = 3
-modalNumber box = 4
-
-unfoldable pub moveNumber : Way → ℕ
-moveNumber ahead = 5
-moveNumber back = 6
-
 -- The records of a tree whose first record gets the number n; a part's own record is the last of its records.
 unfoldable mutual
   pub formFrom : Form → ℕ → List ℕ
-  formFrom (Form.constant v) n = recordBytes (cond v 1 0) 0 0
-  formFrom (Form.atom i) n = recordBytes 2 i 0
+  formFrom (Form.constant v) n = recordBytes (Kind.constant v) 0 0
+  formFrom (Form.atom i) n = recordBytes Kind.atom i 0
   formFrom (Form.modal m p f) n =
-      pathFrom p n ++ formFrom f (n + pathSize p) ++ recordBytes (modalNumber m) (pred (n + pathSize p)) (pred (n + pathSize p + formSize f))
+      pathFrom p n ++ formFrom f (n + pathSize p) ++ recordBytes (Kind.modal m) (pred (n + pathSize p)) (pred (n + pathSize p + formSize f))
 
   pub pathFrom : Path → ℕ → List ℕ
-  pathFrom (Path.move w) n = recordBytes (moveNumber w) 0 0
-  pathFrom (Path.test f) n = formFrom f n ++ recordBytes 7 (pred (n + formSize f)) 0
-  pathFrom (Path.choice p q) n = pathFrom p n ++ pathFrom q (n + pathSize p) ++ recordBytes 8 (pred (n + pathSize p)) (pred (n + pathSize p + pathSize q))
-  pathFrom (Path.sequence p q) n = pathFrom p n ++ pathFrom q (n + pathSize p) ++ recordBytes 9 (pred (n + pathSize p)) (pred (n + pathSize p + pathSize q))
-  pathFrom (Path.star p) n = pathFrom p n ++ recordBytes 10 (pred (n + pathSize p)) 0
+  pathFrom (Path.move w) n = recordBytes (Kind.move w) 0 0
+  pathFrom (Path.test f) n = formFrom f n ++ recordBytes Kind.test (pred (n + formSize f)) 0
+  pathFrom (Path.choice p q) n = pathFrom p n ++ pathFrom q (n + pathSize p) ++ recordBytes Kind.choice (pred (n + pathSize p)) (pred (n + pathSize p + pathSize q))
+  pathFrom (Path.sequence p q) n = pathFrom p n ++ pathFrom q (n + pathSize p) ++ recordBytes Kind.sequence (pred (n + pathSize p)) (pred (n + pathSize p + pathSize q))
+  pathFrom (Path.star p) n = pathFrom p n ++ recordBytes Kind.star (pred (n + pathSize p)) 0
 
 abbrev pub postorder : Form → List ℕ
 postorder f = formFrom f 0

@@ -28,7 +28,7 @@ before f k else = cond (ltb 0 k) (f (pred k)) else
 
 -- ---- the shorthands, kinds 32 to 47 in their order
 pub record Means (L : ℕ) (f g : Row) (k : ℕ) (worth : Shorthand → ℕ) : Type 0 where
-  pub not : worth Shorthand.negated ≡ negation (f k)
+  pub not : worth Shorthand.denied ≡ negation (f k)
   pub and : worth Shorthand.both ≡ min (f k) (g k)
   pub or : worth Shorthand.either ≡ max (f k) (g k)
   pub implies : worth Shorthand.implies ≡ imp (f k) (g k)

@@ -11,7 +11,7 @@ use native.Mathlib.Omega.{arith}
 use lib.ListN.{length, getD}
 use borrow.Author.Tests.{le-ltb}
 use Rattle.meaning.specs.Run.{each, cellOf}
-use Rattle.meaning.specs.Record.{count}
+use Rattle.meaning.specs.Record.{core, count}
 use Rattle.meaning.specs.Tree.{formAt}
 use Rattle.meaning.specs.Value.{valueOf}
 use Rattle.meaning.specs.Rule.{words}
@@ -20,7 +20,7 @@ use Rattle.meaning.specs.Judge.{Verdict, verdict, AllHold, ruleCount}
 use Rattle.meaning.specs.Refusal.{mostAtoms, mostColumns, ground8-cells, grounds9, ground10, ground13, ground13-length}
 use Rattle.meaning.specs.Refusal.{valueGrounds, judgeGrounds}
 use Rattle.meaning.specs.WellFormed.{WellFormed, Trace}
-use Rattle.meaning.specs.Service.{Judged, judged, told, judgeAnswer, valueAnswer}
+use Rattle.meaning.specs.Service.{judgment, judgeAnswer, valueAnswer}
 use Rattle.meaning.proofs.Fails.{tests}
 use Rattle.meaning.proofs.First.{Clear, clear-none, clear-append, each-clear}
 use Rattle.meaning.proofs.Accepted.{clear-well-formed, starred-formed}
@@ -46,13 +46,13 @@ cells-clear : (cells : List ℕ) → ((i : ℕ) → getD cells i 0 ≤ 2) → Cl
 unfolding grounds9
 cells-clear cells low = each-clear _ (length cells) (λ i l. simp tests (omega (arith, low i), tt))
 
--- ---- what is told
--- A yes, and nothing else, is told so.
-told-yes : (v : Verdict) → (told v ≡ judged 0 1 0 0) ↔ (v ≡ Verdict.yes)
-unfolding told
-told-yes Verdict.yes = (λ _. refl, λ _. refl)
-told-yes (Verdict.no i k) = (
-  λ e. let z : _≡_ {A = ℕ} 0 1 = ap (λ (j : Judged). j .holds) e in absurd (omega arith),
+-- ---- the judge's answer
+-- It says that all rules hold where the verdict is yes, and only there.
+holds-yes : (v : Verdict) → (judgment v .holds ≡ 1) ↔ (v ≡ Verdict.yes)
+unfolding judgment
+holds-yes Verdict.yes = (λ _. refl, λ _. refl)
+holds-yes (Verdict.no i k) = (
+  λ e. absurd (omega arith),
   λ e. let z : _≡_ {A = ℕ} 0 1 = cc in absurd (omega arith),
 )
 
@@ -69,7 +69,7 @@ module _ {s : List ℕ} {A L : ℕ} {cells : List ℕ} (accepted : Accepted s A)
   value = valueOf L (cellOf A cells) (formAt s (pred (count s))) 0
 
   -- The records are a tree.
-  formed : WellFormed false s A
+  formed : WellFormed core s A
   formed = starred-formed s A accepted
 
   -- The words are those of whole rules, and not of too many.
@@ -94,15 +94,15 @@ module _ {s : List ℕ} {A L : ℕ} {cells : List ℕ} (accepted : Accepted s A)
       let sizes = sizes-clear mostColumns W L (one .filling) (narrow formed) (trace .some) (trace .few) (φ .size) in
       simp clear-append ((sizes, (length-clear, forms-clear)), cells-clear (one .filling) (φ .low))
 
-  judge-told : judgeAnswer ws W L (one .filling) ≡ told (verdict ws L (cellOf W (one .filling)))
+  judge-answers : judgeAnswer ws W L (one .filling) ≡ judgment (verdict ws L (cellOf W (one .filling)))
   unfolding judgeAnswer
-  judge-told = rw (clear-none _ judge-clear)
+  judge-answers = rw (clear-none _ judge-clear)
 
   -- None of valuing applies where there is room, and it gives the value.
   value-clear : (room : ℕ) → count s * L ≤ room → Clear (valueGrounds s A L cells room)
   unfolding valueGrounds ground10
   value-clear room enough =
-      let (bytes, (_, tree)) = clear-well-formed false s A .1 formed in
+      let (bytes, (_, tree)) = clear-well-formed core s A .1 formed in
       let sizes = sizes-clear mostAtoms A L cells (formed .atoms) (trace .some) (trace .few) (trace .size) in
       simp clear-append
       ((bytes, (sizes, tree)), (cells-clear cells (trace .low), (le-ltb room (count s * L) enough, tt)))
@@ -130,6 +130,6 @@ module _ {s : List ℕ} {A L : ℕ} {cells : List ℕ} (accepted : Accepted s A)
 pub agreement : Agreement
 agreement = record {
   agrees = λ s A L cells accepted trace one.
-      rw (judge-told accepted trace one, value-given accepted trace one)
-      (Iff·trans (told-yes _) (Iff·trans (yes-means _ _ _) (all-or-two accepted trace one)));
+      rw (judge-answers accepted trace one, value-given accepted trace one)
+      (Iff·trans (holds-yes _) (Iff·trans (yes-means _ _ _) (all-or-two accepted trace one)));
 }

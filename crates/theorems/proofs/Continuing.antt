@@ -8,7 +8,7 @@ use mathlib.Core.List.{List}
 use mathlib.Core.Logic.{_⊎_, inl, inr}
 use native.Mathlib.Omega.{arith}
 use Rattle.meaning.specs.Record.{Kind, constant, atom, modal, move, test, choice, sequence, star, shorthand, unknown, columnsOf}
-use Rattle.meaning.specs.Record.{count, kindAt, fieldA, fieldB, Sort, formula, path, sortOf}
+use Rattle.meaning.specs.Record.{core, count, kindAt, fieldA, fieldB, Sort, formula, path, sortOf}
 use Rattle.meaning.specs.Record.{Mode, Use, unused, atomNumber, child, useA, useB, parent}
 use Rattle.meaning.specs.WellFormed.{WellFormed}
 use Rattle.meaning.proofs.Nodes.{differs}
@@ -86,7 +86,7 @@ module _ (s : List ℕ) (L : ℕ) (cell : ℕ → ℕ → ℕ) (q : ℕ) (l : q 
   second-onto (shorthand σ) e sh u = absurd sh
   second-onto unknown e sh u = absurd sh
 
-module _ {s : List ℕ} {A : ℕ} (w : WellFormed false s A) where
+module _ {s : List ℕ} {A : ℕ} (w : WellFormed core s A) where
   module _ (L : ℕ) (cell : ℕ → ℕ → ℕ) (shape : (r : ℕ) → r < count s → Shape s L cell (kindAt s r) r) where
     -- By climbing, t times at most.
     onto-in : (t r : ℕ) → r < count s → count s ≤ t + r → sortAt s r ≡ path → Onto s r (contAt s r)

@@ -8,7 +8,7 @@ use mathlib.Core.Bool.{false}
 use mathlib.Core.List.{List}
 use mathlib.Core.Logic.{_↔_}
 use native.Mathlib.Omega.{arith}
-use Rattle.meaning.specs.Record.{count, kindAt, Sort, formula, path}
+use Rattle.meaning.specs.Record.{core, count, kindAt, Sort, formula, path}
 use Rattle.meaning.specs.Value.{Row}
 use Rattle.meaning.specs.WellFormed.{WellFormed}
 use Rattle.meaning.proofs.Modality.{modal-bound, modal-congruence}
@@ -70,7 +70,7 @@ module _ (s : List ℕ) (L : ℕ) (cell : ℕ → ℕ → ℕ) where
   abbrev Steps : (ℕ → ℕ → Row) → Type 0
   Steps X = (d r k : ℕ) → r < count s → k < L → X (suc d) r k ≡ made (X d) r k
 
-  module _ {A : ℕ} (w : WellFormed false s A) (shape : (r : ℕ) → r < count s → Shape s L cell (kindAt s r) r) where
+  module _ {A : ℕ} (w : WellFormed core s A) (shape : (r : ℕ) → r < count s → Shape s L cell (kindAt s r) r) where
     -- After enough steps, what continues a path does not hang on what was at first.
     steps-agree : (X Y : ℕ → ℕ → Row) → Steps X → Steps Y → (d r : ℕ) → r < count s → count s ≤ suc d + r
         → sortAt s r ≡ path → Agree (X d (contAt s r)) (Y d (contAt s r))

@@ -3,13 +3,12 @@
 -- that check asks; and their tree is the one that was written. So the expander accepts them too, and writes the same tree.
 use Prim.Native.Nat.{ℕ, pred, _+_, _*_, _≤_, zero-le}
 use mathlib.Core.Path.{_≡_, sym, ap, _∙_}
-use mathlib.Core.Bool.{Bool, true, false}
 use mathlib.Core.Logic.{_↔_}
 use mathlib.Core.List.{List}
 use native.Mathlib.Omega.{arith}
 use lib.ListN.{length}
 use Rattle.meaning.specs.Run.{written}
-use Rattle.meaning.specs.Record.{recordSize, mostRecords, count, Sort}
+use Rattle.meaning.specs.Record.{Language, core, full, recordSize, mostRecords, count, Sort}
 use Rattle.meaning.specs.Formula.{Form}
 use Rattle.meaning.specs.Tree.{Tree, asForm, formAt, formSize, postorder}
 use Rattle.meaning.specs.Refusal.{mostAtoms, ground1, ground8, ground10, ground14, treeGrounds, expandGrounds, wholeForm}
@@ -34,19 +33,19 @@ given n = record { refusal = 0; count = n }
 module _ (s : List ℕ) (A : ℕ) where
   -- Well-formed records whose expansion is not too long and has room.
   abbrev Fitting : ℕ → Type 0
-  Fitting room = WellFormed true s A × (wholeForm s ≤ mostRecords) × (recordSize * wholeForm s ≤ room)
+  Fitting room = WellFormed full s A × (wholeForm s ≤ mostRecords) × (recordSize * wholeForm s ≤ room)
 
   fitting-clear : (room : ℕ) → Clear (expandGrounds s A room) ↔ Fitting room
   unfolding expandGrounds ground14 ground10
   fitting-clear room = simp (clear-append, tests) (
-    λ (c, (a, (b, _))). (clear-well-formed true s A .0 c, omega arith, omega arith),
-    λ (w, a, b). (clear-well-formed true s A .1 w, (omega arith, (omega arith, tt))),
+    λ (c, (a, (b, _))). (clear-well-formed full s A .0 c, omega arith, omega arith),
+    λ (w, a, b). (clear-well-formed full s A .1 w, (omega arith, (omega arith, tt))),
   )
 
   grounds-numbered : (room : ℕ) → Numbered (expandGrounds s A room)
   unfolding expandGrounds ground1 ground8 ground14 ground10
   grounds-numbered room =
-      (omega arith, (omega arith, numbered-append (treeGrounds true s A) _ (tree-numbered true s A) (omega arith)))
+      (omega arith, (omega arith, numbered-append (treeGrounds full s A) _ (tree-numbered full s A) (omega arith)))
 
   module _ (out : List ℕ) where
     accepted-fits : expandAnswer s A (length out) .refusal ≡ 0 → Fitting (length out)
@@ -63,24 +62,24 @@ module _ (s : List ℕ) (A : ℕ) where
     fits-after f = rw (fits-answer f)
 
 -- ---- a formula in postorder
-module _ (full : Bool) (F : Form) (A : ℕ) (low : formAtoms F ≤ A) where
+module _ (ℓ : Language) (F : Form) (A : ℕ) (low : formAtoms F ≤ A) where
   -- Its records, all of them a block.
   abbrev e : List ℕ
   e = postorder F
 
   written-whole : length e ≡ recordSize * formSize F
-  written-whole = form-part full e A F 0 low .whole
+  written-whole = form-part ℓ e A F 0 low .whole
 
   written-count : count e ≡ formSize F
   written-count = omega (arith, written-whole)
 
-  written-block : Block full e A 0 (count e) Sort.formula (Tree.formula F)
+  written-block : Block ℓ e A 0 (count e) Sort.formula (Tree.formula F)
   written-block =
       let start : 0 + formSize F ≡ count e = omega (arith, written-whole) in
-      rw start at (form-part full e A F 0 low .block (at-start e))
+      rw start at (form-part ℓ e A F 0 low .block (at-start e))
 
   -- They are well formed, and their tree is the formula.
-  written-formed : A ≤ mostAtoms → formSize F ≤ mostRecords → WellFormed full e A
+  written-formed : A ≤ mostAtoms → formSize F ≤ mostRecords → WellFormed ℓ e A
   written-formed atoms few =
       let sound = written-block .forest .sound in
       record {
@@ -93,7 +92,7 @@ module _ (full : Bool) (F : Form) (A : ℕ) (low : formAtoms F ≤ A) where
         first = λ r l. sound r zero-le l .first;
         second = λ r l. sound r zero-le l .second;
         last = written-block .sorted;
-        once = block-once full e A written-block;
+        once = block-once ℓ e A written-block;
       }
 
   written-tree : formAt e (pred (count e)) ≡ F
@@ -112,21 +111,21 @@ module _ (s : List ℕ) (A : ℕ) (out : List ℕ) (taken : expandAnswer s A (le
   low : formAtoms whole ≤ A
   low = let some = fits .0 .some in form-atoms (fits .0) (pred (count s)) (omega arith)
 
-  formed : (full : Bool) → WellFormed full (expanded s) A
-  formed full = written-formed full whole A low (fits .0 .atoms) (fits .1)
+  formed : (ℓ : Language) → WellFormed ℓ (expanded s) A
+  formed ℓ = written-formed ℓ whole A low (fits .0 .atoms) (fits .1)
 
   same : formAt (expanded s) (pred (count (expanded s))) ≡ whole
-  same = written-tree true whole A low
+  same = written-tree full whole A low
 
   -- The expander accepts its own records where there is room.
   fits-again : (buffer : List ℕ) → length (expanded s) ≤ length buffer → Fitting (expanded s) A (length buffer)
-  fits-again buffer room = (formed true, rw same (fits .1), rw same (omega (arith, written-whole true whole A low)))
+  fits-again buffer room = (formed full, rw same (fits .1), rw same (omega (arith, written-whole full whole A low)))
 
   expanding : Expanding s A out
   expanding = record {
     output = fits-after s A out fits;
-    records = written-count true whole A low ∙ sym (ap (λ (c : Counted). c .count) (fits-answer s A out fits));
-    accepted = check-accepts (expanded s) A .1 (formed false);
+    records = written-count full whole A low ∙ sym (ap (λ (c : Counted). c .count) (fits-answer s A out fits));
+    accepted = check-accepts (expanded s) A .1 (formed core);
     nodes = tree-of (fits .0);
     same-tree = same;
     again = λ buffer room.

@@ -8,7 +8,7 @@ use mathlib.Core.List.{List, [], _∷_}
 use native.Mathlib.Omega.{arith}
 use borrow.Author.Tests.{lt-leb}
 use Rattle.meaning.specs.Record.{Kind, constant, atom, modal, move, test, choice, sequence, star, shorthand, unknown}
-use Rattle.meaning.specs.Record.{Mode, diamond, box, Way, ahead, back, count, kindAt, fieldA, fieldB, columnsOf}
+use Rattle.meaning.specs.Record.{core, Mode, diamond, box, Way, ahead, back, count, kindAt, fieldA, fieldB, columnsOf}
 use Rattle.meaning.specs.Rule.{Rule, previously, negated}
 use Rattle.meaning.specs.Translation.{label, sameRules, edgeRule, joinRules, testRules, moveRules, rulesOf, rulesAt}
 use Rattle.meaning.specs.Translation.{asserted, translation}
@@ -90,7 +90,7 @@ module _ (W : ℕ) (few : W ≤ mostColumns) where
   asserted-formed s A l = simp literals (refl, tt)
 
 -- ---- records
-module _ {s : List ℕ} {A : ℕ} (w : WellFormed false s A) where
+module _ {s : List ℕ} {A : ℕ} (w : WellFormed core s A) where
   -- The columns, which are the atoms and the labels, are not too many.
   abbrev W : ℕ
   W = A + count s

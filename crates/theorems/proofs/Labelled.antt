@@ -9,7 +9,7 @@ use mathlib.Core.Logic.{_↔_, Iff·trans, Iff·rfl}
 use native.Mathlib.Nat.{le-refl}
 use native.Mathlib.Omega.{arith}
 use Rattle.meaning.specs.Record.{Kind, constant, atom, modal, move, test, choice, sequence, star, shorthand, unknown, columnsOf}
-use Rattle.meaning.specs.Record.{Mode, count, kindAt, fieldA, fieldB, Sort, formula, path, sortOf}
+use Rattle.meaning.specs.Record.{core, Mode, count, kindAt, fieldA, fieldB, Sort, formula, path, sortOf}
 use Rattle.meaning.specs.Tree.{asForm, asPath, nodeOf, treeAt, formAt, pathAt}
 use Rattle.meaning.specs.Value.{Row, valueOf, squareOf, modalRow}
 use Rattle.meaning.specs.Rule.{literal}
@@ -33,7 +33,7 @@ meant s L cell path X r = modalRow (modeAt s r) L (squareOf L cell (pathAt s r))
 abbrev pub Right : List ℕ → ℕ → (ℕ → ℕ → ℕ) → (ℕ → Row) → ℕ → Type 0
 Right s L cell X r = (k : ℕ) → k < L → X r k ≡ meant s L cell (sortOf (kindAt s r)) X r k
 
-module _ {s : List ℕ} {A L : ℕ} {cell grid : ℕ → ℕ → ℕ} (w : WellFormed false s A) (low : (k i : ℕ) → grid k i ≤ 2)
+module _ {s : List ℕ} {A L : ℕ} {cell grid : ℕ → ℕ → ℕ} (w : WellFormed core s A) (low : (k i : ℕ) → grid k i ≤ 2)
     (same : (k i : ℕ) → k < L → i < A → grid k i ≡ cell k i) where
   -- The labels as they stand in the grid, after the atoms.
   abbrev X : ℕ → Row

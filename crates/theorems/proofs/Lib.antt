@@ -16,6 +16,6 @@ pub mod SecondLine
 pub mod Standing
 pub mod InForm
 pub mod Agreement
-pub mod Told
+pub mod Levels
 pub mod Paper
 pub mod Expander

@@ -12,7 +12,7 @@ use lib.Seq.{ext-getD}
 use lib.Dec.{ltb}
 use borrow.Author.Tests.{lt-ltb, le-ltb, eqb-true}
 use Rattle.meaning.specs.Run.{each, tabulate, cellOf}
-use Rattle.meaning.specs.Record.{count, kindAt, box, formula, path, sortOf}
+use Rattle.meaning.specs.Record.{core, count, kindAt, box, formula, path, sortOf}
 use Rattle.meaning.specs.Tree.{formAt, pathAt}
 use Rattle.meaning.specs.Value.{Row, valueOf, squareOf, modalRow}
 use Rattle.meaning.specs.Rule.{words, placed}
@@ -41,7 +41,7 @@ same-filling {A} {n} {L} {cells} {f} {g} φ γ h = ext-getD 0 f g (φ .size ∙ 
       | inr o ↦ φ .same k j a o ∙ sym (γ .same k j a o)
     ]))
 
-module _ {s : List ℕ} {A L : ℕ} {cells : List ℕ} (w : WellFormed false s A) (trace : Trace A L cells)
+module _ {s : List ℕ} {A L : ℕ} {cells : List ℕ} (w : WellFormed core s A) (trace : Trace A L cells)
     (shape : (r : ℕ) → r < count s → Shape s L (cellOf A cells) (kindAt s r) r) where
   -- How many records; the right labels.
   abbrev n : ℕ

@@ -12,8 +12,8 @@ use Rattle.meaning.specs.Formula.{Form, Path, constant, atom, modal, move, test
 use Rattle.meaning.specs.Value.{modalRow, valueOf, squareOf}
 use Rattle.meaning.proofs.Onward.{values-bound, square-bound}
 use Rattle.theorems.specs.Paper.{HereThere, total, Times, Satisfies, Relates, power, Valued, Theorem1, Paper}
-use Rattle.theorems.proofs.Told.{Holds, Told, diamond-told, box-told}
-use Rattle.theorems.proofs.Told.{step-told, back-told, test-told, choice-told, sequence-told, star-told}
+use Rattle.theorems.proofs.Levels.{LevelRow, Level, diamond-level, box-level}
+use Rattle.theorems.proofs.Levels.{step-level, back-level, test-level, choice-level, sequence-level, star-level}
 
 -- ---- the law of both traces
 module _ (L : ℕ) (cell : ℕ → ℕ → ℕ) where
@@ -21,8 +21,8 @@ module _ (L : ℕ) (cell : ℕ → ℕ → ℕ) where
   record From (M : HereThere) (v : ℕ) : Type 0 where
     above : 0 < v
     value : v ≤ 2
-    here : (i : ℕ) → Holds L v (λ k. M .here k i) (λ k. cell k i)
-    there : (i : ℕ) → Holds L 1 (λ k. M .there k i) (λ k. cell k i)
+    here : (i : ℕ) → LevelRow L v (λ k. M .here k i) (λ k. cell k i)
+    there : (i : ℕ) → LevelRow L 1 (λ k. M .there k i) (λ k. cell k i)
 
   -- So for the total trace v is 1.
   from-total : {M : HereThere} {v : ℕ} → From M v → From (total M) 1
@@ -33,32 +33,32 @@ module _ (L : ℕ) (cell : ℕ → ℕ → ℕ) where
       unfolding Satisfies Relates valueOf squareOf modalRow
 
       -- What it satisfies.
-      satisfied : (f : Form) {M : HereThere} {v : ℕ} → From M v → Holds L v (Satisfies L M f) (valueOf L cell f)
+      satisfied : (f : Form) {M : HereThere} {v : ℕ} → From M v → LevelRow L v (Satisfies L M f) (valueOf L cell f)
       satisfied (constant false) φ = λ k l. (λ s. absurd s, λ a. absurd (omega (arith, φ .above)))
       satisfied (constant true) φ = λ k l. (λ _. φ .value, λ _. tt)
       satisfied (atom i) φ = φ .here i
-      satisfied (modal diamond p f) φ = diamond-told L _ (φ .above) (φ .value) _ _ (related p φ) (satisfied f φ)
+      satisfied (modal diamond p f) φ = diamond-level L _ (φ .above) (φ .value) _ _ (related p φ) (satisfied f φ)
       satisfied (modal box p f) φ =
           let τ = from-total φ in
-          box-told L _ (φ .above) (φ .value) _ _ (related p φ) (satisfied f φ) (related p τ) (satisfied f τ)
+          box-level L _ (φ .above) (φ .value) _ _ (related p φ) (satisfied f φ) (related p τ) (satisfied f τ)
           (square-bound L cell low p)
 
       -- What its paths relate.
-      related : (p : Path) {M : HereThere} {v : ℕ} → From M v → Told L v (Relates L M p) (squareOf L cell p)
-      related (move ahead) φ = step-told L _ (φ .above) (φ .value)
-      related (move back) φ = back-told L _ (φ .above) (φ .value)
-      related (test f) φ = test-told L _ (φ .above) (φ .value) _ (satisfied f φ)
-      related (choice p q) φ = choice-told L _ (φ .above) (φ .value) _ _ (related p φ) (related q φ)
-      related (sequence p q) φ = sequence-told L _ (φ .above) (φ .value) _ _ (related p φ) (related q φ)
-      related (star p) φ = star-told L _ (φ .above) (φ .value) _ (related p φ)
+      related : (p : Path) {M : HereThere} {v : ℕ} → From M v → Level L v (Relates L M p) (squareOf L cell p)
+      related (move ahead) φ = step-level L _ (φ .above) (φ .value)
+      related (move back) φ = back-level L _ (φ .above) (φ .value)
+      related (test f) φ = test-level L _ (φ .above) (φ .value) _ (satisfied f φ)
+      related (choice p q) φ = choice-level L _ (φ .above) (φ .value) _ _ (related p φ) (related q φ)
+      related (sequence p q) φ = sequence-level L _ (φ .above) (φ .value) _ _ (related p φ) (related q φ)
+      related (star p) φ = star-level L _ (φ .above) (φ .value) _ (related p φ)
 
 -- ---- theorem 1
 -- A value is at least 2 exactly if it is 2, and at least 1 exactly if it is not 0.
-two-told : (v : ℕ) → v ≤ 2 → (2 ≤ v) ↔ (v ≡ 2)
-two-told v b = (λ h. omega arith, λ h. omega arith)
+two-level : (v : ℕ) → v ≤ 2 → (2 ≤ v) ↔ (v ≡ 2)
+two-level v b = (λ h. omega arith, λ h. omega arith)
 
-some-told : (v : ℕ) → (1 ≤ v) ↔ (v ≢ 0)
-some-told v = (λ h e. omega arith, λ h. omega arith)
+some-level : (v : ℕ) → (1 ≤ v) ↔ (v ≢ 0)
+some-level v = (λ h e. omega arith, λ h. omega arith)
 
 module _ {L : ℕ} {M : HereThere} {cell : ℕ → ℕ → ℕ} (valued : Valued L M cell) where
   abbrev low : (k i : ℕ) → k < L → cell k i ≤ 2
@@ -69,8 +69,8 @@ module _ {L : ℕ} {M : HereThere} {cell : ℕ → ℕ → ℕ} (valued : Valued
   given = record {
     above = omega arith;
     value = le-refl 2;
-    here = λ i k l. Iff·trans (valued .here k i l) (Iff·symm (two-told (cell k i) (low k i l)));
-    there = λ i k l. Iff·trans (valued .there k i l) (Iff·symm (some-told (cell k i)));
+    here = λ i k l. Iff·trans (valued .here k i l) (Iff·symm (two-level (cell k i) (low k i l)));
+    there = λ i k l. Iff·trans (valued .there k i l) (Iff·symm (some-level (cell k i)));
   }
 
   -- Between instants of the trace.
@@ -85,10 +85,10 @@ module _ {L : ℕ} {M : HereThere} {cell : ℕ → ℕ → ℕ} (valued : Valued
       let τ = from-total L cell given in
       record {
         formula-here = λ f k l.
-            Iff·trans (satisfied L cell low f given k l) (two-told _ (values-bound L cell low f k l));
-        formula-there = λ f k l. Iff·trans (satisfied L cell low f τ k l) (some-told _);
-        path-here = λ p k j l m. Iff·trans (between given p k j l m) (two-told _ (square-bound L cell low p k j l));
-        path-there = λ p k j l m. Iff·trans (between τ p k j l m) (some-told _);
+            Iff·trans (satisfied L cell low f given k l) (two-level _ (values-bound L cell low f k l));
+        formula-there = λ f k l. Iff·trans (satisfied L cell low f τ k l) (some-level _);
+        path-here = λ p k j l m. Iff·trans (between given p k j l m) (two-level _ (square-bound L cell low p k j l));
+        path-there = λ p k j l m. Iff·trans (between τ p k j l m) (some-level _);
       }
 
 -- ---- traces and cells

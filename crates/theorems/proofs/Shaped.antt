@@ -6,7 +6,7 @@ use mathlib.Core.Path.{_≡_, refl, sym, ap}
 use mathlib.Core.Bool.{true, false, true≢false}
 use mathlib.Core.List.{List}
 use Rattle.meaning.specs.Record.{Kind, constant, atom, modal, move, test, choice, sequence, star, shorthand, unknown, columnsOf}
-use Rattle.meaning.specs.Record.{count, kindAt, fieldA, fieldB, child, useA, useB, Sort, path, sortOf, known}
+use Rattle.meaning.specs.Record.{core, count, kindAt, fieldA, fieldB, child, useA, useB, Sort, path, sortOf, known}
 use Rattle.meaning.specs.Tree.{pathAt}
 use Rattle.meaning.specs.Translation.{Context, handed, context}
 use Rattle.meaning.specs.WellFormed.{WellFormed}
@@ -25,7 +25,7 @@ part-of h e = record {
   continued = ap (λ (c : Context). c .continuation) e;
 }
 
-module _ {s : List ℕ} {A : ℕ} (w : WellFormed false s A) (r : ℕ) (l : r < count s) where
+module _ {s : List ℕ} {A : ℕ} (w : WellFormed core s A) (r : ℕ) (l : r < count s) where
   module _ (K : Kind) (e : kindAt s r ≡ K) where
     -- A field that is a child holds an earlier record of its sort.
     first-child : {σ : Sort} → useA K ≡ child σ → Child s r (fieldA s r) σ

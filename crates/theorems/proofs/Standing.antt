@@ -10,7 +10,7 @@ use native.Mathlib.Omega.{arith}
 use lib.ListN.{length, getD}
 use lib.Seq.{ext-getD}
 use Rattle.meaning.specs.Run.{each, tabulate, cellOf}
-use Rattle.meaning.specs.Record.{count, diamond, kinds, kindOf, columnsOf, names, uses, parentIn}
+use Rattle.meaning.specs.Record.{count, diamond, kinds, kindOf, numberOf, columnsOf, names, uses, parentIn}
 use Rattle.meaning.specs.Rule.{Rule, symbolValue, plain, literal}
 use Rattle.meaning.specs.Translation.{handed, contextIn}
 use Rattle.meaning.specs.Translation.{sameRules, joinRules, testRules, rulesOf, rulesAt}
@@ -28,7 +28,7 @@ rules = sameRules 0 4 2 ++ (testRules diamond 5 4 6 ++ (joinRules diamond 6 7 5 
 
 -- They are the translation's.
 are-rules : each (count standing) (rulesAt standing 2) ≡ rules
-unfolding rules each kinds kindOf columnsOf names uses parentIn handed contextIn rulesOf rulesAt testRules joinRules
+unfolding rules each kinds kindOf numberOf columnsOf names uses parentIn handed contextIn rulesOf rulesAt testRules joinRules
 are-rules = refl
 
 -- What they say of the seven cells of a filling.

@@ -12,7 +12,7 @@ use Rattle.meaning.specs.Formula.{Path, mayStand, goes}
 use Rattle.meaning.specs.Value.{Row, modalRow, starSquare, moveSquare, squareOf}
 use Rattle.meaning.specs.Rule.{words}
 use Rattle.meaning.specs.Translation.{translation}
-use Rattle.meaning.specs.Service.{judged, judgeAnswer, valueAnswer}
+use Rattle.meaning.specs.Service.{judgeAnswer, valueAnswer}
 use Rattle.meaning.specs.Examples.{standing}
 use Rattle.meaning.specs.WellFormed.{Trace}
 use Rattle.theorems.specs.Filling.{Filling, Meets}
@@ -34,5 +34,5 @@ pub record Standing : Type 0 where
 
 pub record Agreement : Type 0 where
   pub agrees : (s : List ℕ) (A L : ℕ) (cells : List ℕ) → Accepted s A → Trace A L cells → (one : OneFilling s A L cells)
-      → (judgeAnswer (words (translation s A)) (A + count s) L (one .filling) ≡ judged 0 1 0 0)
+      → (judgeAnswer (words (translation s A)) (A + count s) L (one .filling) .holds ≡ 1)
       ↔ (valueAnswer s A L cells (count s * L) .value ≡ 2)
