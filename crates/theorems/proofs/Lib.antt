@@ -11,7 +11,7 @@ pub mod Continuing
 pub mod Determined
 pub mod OneFilling
 pub mod Written
-pub mod Demand
+pub mod Demand3
 pub mod SecondLine
 pub mod Standing
 pub mod InForm
@@ -19,3 +19,7 @@ pub mod Agreement
 pub mod Levels
 pub mod Paper
 pub mod Expander
+pub mod Ordered
+pub mod Applying
+pub mod Refusing
+pub mod Demand1
