@@ -13,4 +13,6 @@ pub mod Judge
 pub mod Refusal
 pub mod WellFormed
 pub mod Service
+pub mod Reason
+pub mod Outcome
 pub mod Examples

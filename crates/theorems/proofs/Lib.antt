@@ -19,7 +19,4 @@ pub mod Agreement
 pub mod Levels
 pub mod Paper
 pub mod Expander
-pub mod Ordered
-pub mod Applying
-pub mod Refusing
 pub mod Demand1

@@ -1,22 +1,15 @@
 -- Demand 1: any input gets an answer. A refusal gives the number of the first reason that applies, other numbers are 0, and the lent
 -- buffer stays as it was; where nothing is refused, the buffer stays as it was past what is written.
-use Prim.Native.Nat.{ℕ, _*_, _≤_}
+use Prim.Native.Nat.{ℕ, _*_}
 use mathlib.Core.Path.{_≡_}
 use mathlib.Core.Logic.{_≢_}
 use mathlib.Core.List.{List}
-use lib.ListN.{length, getD}
+use lib.ListN.{length}
 use Rattle.meaning.specs.Record.{recordSize, count}
 use Rattle.meaning.specs.Rule.{ruleSize}
-use Rattle.meaning.specs.Service.{Judged, checkAnswer, expandAnswer, expandAfter, valueAnswer, valueAfter, translateAnswer, translateAfter, judgeAnswer}
-use Rattle.theorems.specs.Reason.{Reason, First, CheckRefused, ExpandRefused, ValueRefused, TranslateRefused, JudgeRefused}
-
--- Of a service that lends a buffer: its refusal and its other number, how much it writes, and the buffer before and after the call.
-pub record Answered (Refused : Reason → Type 0) (refusal other size : ℕ) (before after : List ℕ) : Type 0 where
-  pub first : First Refused refusal
-  pub no-number : refusal ≢ 0 → other ≡ 0
-  pub untouched : refusal ≢ 0 → after ≡ before
-  pub as-long : length after ≡ length before
-  pub rest : refusal ≡ 0 → (i : ℕ) → size ≤ i → getD after i 0 ≡ getD before i 0
+use Rattle.meaning.specs.Service.{checkAnswer, expandAnswer, expandAfter, valueAnswer, valueAfter, translateAnswer, translateAfter, judgeAnswer}
+use Rattle.meaning.specs.Outcome.{Answered}
+use Rattle.meaning.specs.Reason.{First, CheckRefused, ExpandRefused, ValueRefused, TranslateRefused, JudgeRefused}
 
 pub record Demand1 : Type 0 where
   pub check : (s : List ℕ) (A : ℕ) → First (CheckRefused s A) (checkAnswer s A)

@@ -1,5 +1,4 @@
 -- The demands as theorems about the definitions of meaning.
-pub mod Reason
 pub mod Demand1
 pub mod Filling
 pub mod Demand3

@@ -10,11 +10,11 @@ use mathlib.Core.List.{List, [], _∷_, _++_}
 use native.Mathlib.Decide.{ℕ-discrete}
 use native.Mathlib.Nat.{le-refl}
 use native.Mathlib.Omega.{arith}
 use Rattle.meaning.specs.Run.{each}
 use Rattle.meaning.specs.Refusal.{Ground, ofFirst, firstOf}
 use Rattle.meaning.proofs.Bounds.{below-suc}
 use Rattle.meaning.proofs.First.{Numbered, none-clear, clear-skip, found-stop, numbered-append}
-use Rattle.theorems.specs.Reason.{Reason, given, Position, position, positionOf, Earlier, Before, First, _when_}
+use Rattle.meaning.specs.Reason.{Reason, given, Position, position, positionOf, Earlier, Before, First, _when_}
 
 -- ---- positions
 pub earlier-trans : (p q r : Position) → Earlier p q → Earlier q r → Earlier p r

@@ -8,16 +8,16 @@ use native.Mathlib.Omega.{arith}
 use lib.ListN.{length, getD}
 use lib.Dec.{leb, ltb, eqb}
 use borrow.Author.Tests.{ltb-true, lt-ltb, leb-true, le-leb, eqb-true, eq-eqb, eqb-false, ne-eqb, not-true}
 use Rattle.meaning.specs.Record.{Language, known, recordSize, mostRecords, count, zeroByte, fieldA, fieldB, kindAt}
 use Rattle.meaning.specs.Record.{Kind, constant, atom, modal, move, test, choice, sequence, star, shorthand, unknown}
 use Rattle.meaning.specs.Record.{Sort, formula, path, sortOf, Use, unused, atomNumber, child, useA, useB, places, ahead, back}
 use Rattle.meaning.specs.Formula.{mayStand, goes}
 use Rattle.meaning.specs.Tree.{pathAt}
 use Rattle.meaning.specs.Rule.{ruleSize, ruleAt, ruleWord}
 use Rattle.meaning.specs.Refusal.{stray, late, beyond, differ, misfit, isStar, badLiteral, badRule, mostRules}
 use Rattle.meaning.specs.Refusal.{ground1, ground2, ground3, ground4, ground5, ground6, ground6-last, ground7, ground8-cells, ground11, ground12, ground13, ground13-length}
 use Rattle.meaning.proofs.Fails.{and-holds, eqb-holds, eqb-fails}
-use Rattle.theorems.specs.Reason.{InField, WrongSize, WrongWord, WrongRule}
+use Rattle.meaning.specs.Reason.{InField, WrongSize, WrongWord, WrongRule}
 
 -- ---- tests
 -- One of two.

@@ -7,20 +7,20 @@ use mathlib.Core.List.{List, [], _∷_}
 use native.Mathlib.Nat.{le-refl}
 use native.Mathlib.Omega.{arith}
 use lib.ListN.{length}
 use Rattle.meaning.specs.Run.{each}
 use Rattle.meaning.specs.Record.{Language, core, full, count, places}
 use Rattle.meaning.specs.Rule.{ruleSize}
 use Rattle.meaning.specs.Translation.{translation}
 use Rattle.meaning.specs.Judge.{ruleCount}
 use Rattle.meaning.specs.Refusal.{Ground, mostAtoms, mostColumns, ground1, ground2, ground3, ground4, ground5, ground6, ground6-last, ground7, ground8, ground8-cells}
 use Rattle.meaning.specs.Refusal.{grounds9, ground10, ground11, ground12, ground13, ground13-length, ground14, wholeForm, recordGrounds, treeGrounds, starGrounds}
 use Rattle.meaning.specs.Refusal.{checkGrounds, expandGrounds, valueGrounds, translateGrounds, judgeGrounds}
 use Rattle.meaning.proofs.RuleCount.{translation-counted}
-use Rattle.theorems.specs.Reason.{given, position, positionOf, notOneParent, noRoom, RecordRefused, TreeRefused, FormulaRefused, StarRefused, WrongSize, CellRefused}
-use Rattle.theorems.specs.Reason.{CheckRefused, ExpandRefused, ValueRefused, TranslateRefused, JudgeRefused, _when_}
-use Rattle.theorems.proofs.Ordered.{Ordered, NotAfter, not-after, ordered-one, ordered-cons, ordered-same, ordered-wide, ordered-append, ordered-each}
-use Rattle.theorems.proofs.Applying.{one-of-three, ltb-holds, length-applies, sizes-apply, kind-applies, zero-applies, late-child-applies, atom-applies}
-use Rattle.theorems.proofs.Applying.{sort-applies, parents-apply, last-applies, turns-apply, stands-apply, words-apply, rule-applies}
+use Rattle.meaning.specs.Reason.{given, position, positionOf, notOneParent, noRoom, RecordRefused, TreeRefused, FormulaRefused, StarRefused, WrongSize, CellRefused}
+use Rattle.meaning.specs.Reason.{CheckRefused, ExpandRefused, ValueRefused, TranslateRefused, JudgeRefused, _when_}
+use Rattle.meaning.proofs.Ordered.{Ordered, NotAfter, not-after, ordered-one, ordered-cons, ordered-same, ordered-wide, ordered-append, ordered-each}
+use Rattle.meaning.proofs.Applying.{one-of-three, ltb-holds, length-applies, sizes-apply, kind-applies, zero-applies, late-child-applies, atom-applies}
+use Rattle.meaning.proofs.Applying.{sort-applies, parents-apply, last-applies, turns-apply, stands-apply, words-apply, rule-applies}
 
 -- ---- from one position to the next
 -- The next stage,
