@@ -118,16 +118,15 @@ ordered-append {gs} {hs} {In} {Also} lo m hi start end o p = record {
         × ((σ : Reason) → Before σ ρ → In σ ⊎ Also σ → ⊥)
     some n = elim (ℕ-discrete (firstOf gs) 0) [
       | yes z ↦
-        let (ρ, i, g, b) = p .some (λ e. n (skip z ∙ e)) in
-        (ρ, inr i, g ∙ sym (skip z), λ σ c j. elim j [ inl k ↦ o .none z σ k | inr k ↦ b σ c k ])
+          let (ρ, i, g, b) = p .some (λ e. n (skip z ∙ e)) in
+          (ρ, inr i, g ∙ sym (skip z), λ σ c j. elim j [ inl k ↦ o .none z σ k | inr k ↦ b σ c k ])
       | no d ↦
-        let (ρ, i, g, b) = o .some d in
-        (
-          ρ,
-          inl i,
-          g ∙ sym (found-stop gs hs d),
-          λ σ c j. elim j [ inl k ↦ b σ c k | inr k ↦ p .from σ k (earlier-trans _ _ m c (o .upto ρ i)) ],
-        )
+          let (ρ, i, g, b) = o .some d in (
+            ρ,
+            inl i,
+            g ∙ sym (found-stop gs hs d),
+            λ σ c j. elim j [ inl k ↦ b σ c k | inr k ↦ p .from σ k (earlier-trans _ _ m c (o .upto ρ i)) ],
+          )
     ]
 
 -- One ground before others, which start at m.
@@ -137,7 +136,7 @@ pub ordered-cons : {gs : List Ground} {Also : Reason → Type 0} (g : Ground) (�
     → Ordered (g ∷ gs) (λ ρ. (σ when P) ρ ⊎ Also ρ) (position stage index turn) hi
 ordered-cons g σ P number some fact stage index turn there m hi gap end o =
     let here : NotAfter (position stage index turn) (position stage index (suc turn)) =
-        not-after _ _ (inr (refl, inr (refl, le-refl _))) in
+    not-after _ _ (inr (refl, inr (refl, le-refl _))) in
     ordered-append (position stage index turn) m hi (λ r b. gap r (here r b)) end
     (ordered-wide _ m gap (ordered-one g σ P number some fact stage index turn there)) o
 

@@ -6,6 +6,7 @@ pub mod Formula
 pub mod Shorthand
 pub mod Tree
 pub mod Value
+pub mod Reading
 pub mod Worth
 pub mod Rule
 pub mod Translation

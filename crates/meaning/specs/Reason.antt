@@ -89,7 +89,6 @@ pub record First (Applies : Reason → Type 0) (x : ℕ) : Type 0 where
 
 -- ---- the facts
 infix 20 _when_
-
 abbrev pub _when_ : Reason → Type 0 → Reason → Type 0
 (σ when P) ρ = (ρ ≡ σ) × P
 
