@@ -66,7 +66,7 @@ records-length : (F : Form) → length (postorder F) ≡ recordSize * formSize F
 records-length F = form-part core (postorder F) (formAtoms F) F 0 (le-refl _) .whole
 
 -- A row for each record.
-table-length : (s : List ℕ) (A L : ℕ) (cells : List ℕ) → length (table s A L cells) ≡ count s * L
+pub table-length : (s : List ℕ) (A L : ℕ) (cells : List ℕ) → length (table s A L cells) ≡ count s * L
 unfolding table
 table-length s A L cells = length-each L _ (λ r. length-tabulate L _) (count s) ∙ mul-comm L (count s)
 
@@ -109,7 +109,7 @@ verdict-accepts Verdict.yes = refl
 verdict-accepts (Verdict.no i k) = refl
 
 module _ (ws : List ℕ) (W L : ℕ) (cells : List ℕ) where
-  judge-refusal : judgeAnswer ws W L cells .refusal ≡ firstOf (judgeGrounds ws W L cells)
+  pub judge-refusal : judgeAnswer ws W L cells .refusal ≡ firstOf (judgeGrounds ws W L cells)
   unfolding judgeAnswer
   judge-refusal = elim (ℕ-discrete (firstOf (judgeGrounds ws W L cells)) 0) [
     | yes e ↦ rw (eq-eqb _ 0 e) (verdict-accepts _ ∙ sym e)

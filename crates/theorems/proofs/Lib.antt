@@ -4,7 +4,6 @@ pub mod Cleared
 pub mod Shaped
 pub mod Every
 pub mod Keeping
-pub mod Literals
 pub mod Saying
 pub mod Labelled
 pub mod Continuing
