@@ -1,21 +1,22 @@
 -- The examples are computed: each side of an equation is run through the definitions, which are all open here.
 use mathlib.Core.Path.{refl}
-use Rattle.meaning.specs.Three.{imp, greatest, least}
+use Rattle.meaning.specs.Three.{imp, negation, greatest, least}
 use Rattle.meaning.specs.Run.{each, tabulate, written}
 use Rattle.meaning.specs.Record.{kinds, kindOf, shorthandNumber, numberOf, argumentsOf, known, columnsOf, names, uses, placesIn, parentIn}
 use Rattle.meaning.specs.Formula.{mayStand, sameWay, goes}
 use Rattle.meaning.specs.Shorthand.{expansion}
 use Rattle.meaning.specs.Tree.{asForm, asPath, nodeOf, trees, treeAt, formSize, pathSize, formFrom, pathFrom}
 use Rattle.meaning.specs.Value.{moveSquare, testSquare, choiceSquare, sequenceSquare, passes, starSquare, diamondRow, boxRow, modalRow, valueOf, squareOf}
-use Rattle.meaning.specs.Rule.{words}
+use Rattle.meaning.specs.Rule.{words, ruleAt, placed, symbolValue, plain, literal, bodyValue, headValue, holds}
+use Rattle.meaning.specs.Judge.{failsAt, failures, firstFailure, verdict}
 use Rattle.meaning.specs.Translation.{handed, contextIn, edgeRule, joinRules, testRules, moveRules, rulesOf, rulesAt, translation}
-use Rattle.meaning.specs.Refusal.{ofFirst, ground1, ground2, stray, ground3, late, ground4, beyond, ground5, differ, misfit, ground6, ground6-last, ground7, ground8, ground8-cells, grounds9, ground10, isStar, ground11, ground12, ground14, recordGrounds, treeGrounds, starGrounds, checkGrounds, expandGrounds, valueGrounds, translateGrounds}
-use Rattle.meaning.specs.Service.{expandAnswer, expandAfter, rowBy, rowOf, table, valueAnswer, valueAfter, translateAnswer, translateAfter}
-use Rattle.meaning.specs.Examples.{Starred, Others}
+use Rattle.meaning.specs.Refusal.{ofFirst, ground1, ground2, stray, ground3, late, ground4, beyond, ground5, differ, misfit, ground6, ground6-last, ground7, ground8, ground8-cells, grounds9, ground10, isStar, ground11, ground12, badLiteral, badRule, ground13-length, ground13, ground14, recordGrounds, treeGrounds, starGrounds, checkGrounds, expandGrounds, valueGrounds, translateGrounds, judgeGrounds}
+use Rattle.meaning.specs.Service.{expandAnswer, expandAfter, rowBy, rowOf, table, valueAnswer, valueAfter, translateAnswer, translateAfter, judgment, judgeAnswer}
+use Rattle.meaning.specs.Examples.{Starred, Others, Filled}
 
 -- Every definition that an example runs through.
-open-all : Unit {0}
-unfolding imp greatest least each tabulate written kinds kindOf shorthandNumber numberOf columnsOf argumentsOf known mayStand sameWay goes expansion asForm asPath nodeOf trees treeAt formSize pathSize formFrom pathFrom moveSquare testSquare choiceSquare sequenceSquare passes starSquare diamondRow boxRow modalRow valueOf squareOf words names uses placesIn parentIn handed contextIn edgeRule joinRules testRules moveRules rulesOf rulesAt translation ofFirst ground1 ground2 stray ground3 late ground4 beyond ground5 differ misfit ground6 ground6-last ground7 ground8 ground8-cells grounds9 ground10 isStar ground11 ground12 ground14 recordGrounds treeGrounds starGrounds checkGrounds expandGrounds valueGrounds translateGrounds expandAnswer expandAfter rowBy rowOf table valueAnswer valueAfter translateAnswer translateAfter
+unfoldable pub open-all : Unit {0}
+unfolding imp negation greatest least each tabulate written kinds kindOf shorthandNumber numberOf columnsOf argumentsOf known mayStand sameWay goes expansion asForm asPath nodeOf trees treeAt formSize pathSize formFrom pathFrom moveSquare testSquare choiceSquare sequenceSquare passes starSquare diamondRow boxRow modalRow valueOf squareOf words ruleAt placed symbolValue plain literal bodyValue headValue holds failsAt failures firstFailure verdict names uses placesIn parentIn handed contextIn edgeRule joinRules testRules moveRules rulesOf rulesAt translation ofFirst ground1 ground2 stray ground3 late ground4 beyond ground5 differ misfit ground6 ground6-last ground7 ground8 ground8-cells grounds9 ground10 isStar ground11 ground12 badLiteral badRule ground13-length ground13 ground14 recordGrounds treeGrounds starGrounds checkGrounds expandGrounds valueGrounds translateGrounds judgeGrounds expandAnswer expandAfter rowBy rowOf table valueAnswer valueAfter translateAnswer translateAfter judgment judgeAnswer
 open-all = tt
 
 pub starred : Starred
@@ -53,3 +54,8 @@ others =
       n-diamond = record { accepted = refl; values = refl };
       printed = refl;
     }
+
+pub filled : Filled
+unfolding open-all
+filled =
+    record { f = refl; f-short = refl; h = refl; h-short = refl; j = refl; next = refl; next-short = refl; weak-next = refl }

@@ -2,7 +2,7 @@
 -- of all records are the sum, and one more asserts the whole formula.
 use Prim.Native.Nat.{ℕ, zero, suc, _+_, _*_, _≤_}
 use mathlib.Core.Path.{_≡_, refl}
-use mathlib.Core.List.{List, [], _∷_}
+use mathlib.Core.List.{List, [], _∷_, _++_}
 use native.Mathlib.Omega.{arith}
 use lib.ListN.{length, length-append}
 use Rattle.meaning.specs.Run.{each}
@@ -75,3 +75,9 @@ pub words-length : (ρs : List Rule) → length (words ρs) ≡ ruleSize * lengt
 unfolding words
 words-length [] = refl
 words-length (ρ ∷ ρs) = omega (arith, words-length ρs)
+
+-- Two lists end to end.
+pub words-append : (ρs σs : List Rule) → words (ρs ++ σs) ≡ words ρs ++ words σs
+unfolding words
+words-append [] σs = refl
+words-append (ρ ∷ ρs) σs = rw (words-append ρs σs)

@@ -5,14 +5,16 @@
 --   Refused s A number          the translator refuses with this number
 --   Starred                     the examples that the document marks to be proved
 --   Others                      example N, and the printed translation of ⟨step⟩p
-use Prim.Native.Nat.{ℕ, pred, _*_}
+--   Filled                      the judge over traces filled with labels, right ones and wrong ones
+use Prim.Native.Nat.{ℕ, pred, _+_, _*_}
 use mathlib.Core.Path.{_≡_}
 use mathlib.Core.Bool.{false}
 use mathlib.Core.List.{List, [], _∷_, _++_}
 use lib.ListN.{length, drop, replicate}
 use Rattle.meaning.specs.Record.{count, Kind, diamond, box, Way, Shorthand, recordBytes}
-use Rattle.meaning.specs.Rule.{ruleSize}
-use Rattle.meaning.specs.Service.{Counted, expandAnswer, expandAfter, valueAnswer, valueAfter, translateAnswer, translateAfter}
+use Rattle.meaning.specs.Rule.{ruleSize, words}
+use Rattle.meaning.specs.Translation.{otherRules}
+use Rattle.meaning.specs.Service.{Counted, Judged, judged, judgeAnswer, expandAnswer, expandAfter, valueAnswer, valueAfter, translateAnswer, translateAfter}
 
 -- ---- what an example says; the lent buffers hold 7 before
 abbrev counted : ℕ → ℕ → Counted
@@ -132,3 +134,32 @@ pub record Others : Type 0 where
       ++ (0 ∷ 36 ∷ 1 ∷ 34 ∷ 0 ∷ 0 ∷ [])
       ++ (0 ∷ 34 ∷ 1 ∷ 36 ∷ 0 ∷ 0 ∷ [])
       ++ (1 ∷ 1 ∷ 1 ∷ 36 ∷ 0 ∷ 0 ∷ [])
+
+-- The judge's answer to all rules of a formula but the one that asserts it, over a trace filled with labels: a row has the atoms' cells
+-- and a label for each record.
+abbrev pub Says : List ℕ → ℕ → ℕ → List ℕ → Judged → Type 0
+Says s A L filled answer = judgeAnswer (words (otherRules s A)) (A + count s) L filled ≡ answer
+
+abbrev pub yes : Judged
+yes = judged 0 1 0 0
+
+abbrev pub no : ℕ → ℕ → Judged
+no rule instant = judged 0 0 rule instant
+
+-- Labels: H has p, the test, q, the box.
+abbrev pub hShort : List ℕ
+hShort = 1 ∷ 1 ∷ 1 ∷ 1 ∷ 1 ∷ 1 ∷ []
+
+pub record Filled : Type 0 where
+  -- F, with labels for the back step, the star, p and the diamond: the star's is 2 at the last instant, where p is 0.
+  pub f : Says onceP 1 2 (2 ∷ 0 ∷ 2 ∷ 2 ∷ 2 ∷ 0 ∷ 2 ∷ 2 ∷ 0 ∷ 2 ∷ []) yes
+  -- A star's label of 1 where 2 is due: the rule c → x fails.
+  pub f-short : Says onceP 1 2 (2 ∷ 0 ∷ 1 ∷ 2 ∷ 1 ∷ 0 ∷ 1 ∷ 1 ∷ 0 ∷ 1 ∷ []) (no 4 0)
+  -- H: the box's label is 2; with 1 the rule "x, a, not c" fails. J: it is 0.
+  pub h : Says implies 2 1 (1 ∷ 1 ∷ 1 ∷ 2 ∷ 1 ∷ 2 ∷ []) yes
+  pub h-short : Says implies 2 1 hShort (no 5 0)
+  pub j : Says implies 2 1 (1 ∷ 0 ∷ 1 ∷ 0 ∷ 0 ∷ 0 ∷ []) yes
+  -- ⟨step⟩p and [step]p over two instants, with labels for the step, p and the modality: there is no step from the last instant.
+  pub next : Says nextP 1 2 (0 ∷ 2 ∷ 0 ∷ 2 ∷ 2 ∷ 0 ∷ 2 ∷ 0 ∷ []) yes
+  pub next-short : Says nextP 1 2 (0 ∷ 0 ∷ 0 ∷ 0 ∷ 2 ∷ 0 ∷ 2 ∷ 0 ∷ []) (no 1 1)
+  pub weak-next : Says weakNextP 1 2 (0 ∷ 2 ∷ 0 ∷ 2 ∷ 2 ∷ 2 ∷ 2 ∷ 2 ∷ []) yes

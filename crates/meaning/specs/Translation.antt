@@ -2,6 +2,7 @@
 --   label A r           the symbol of record r's label
 --   context s r         what the path record r stands under: the modality's mode, and the record whose label continues it
 --   rulesOf ..          the rules of one record
+--   otherRules s A      all rules but the one that asserts the whole formula
 --   translation s A     all rules; the last asserts the whole formula
 --   ruleNumber, ruleSum how many rules come from one record, and from the first n
 use Prim.Native.Nat.{ℕ, zero, suc, pred, _+_}
@@ -106,8 +107,12 @@ rulesAt s A r =
 abbrev pub asserted : List ℕ → ℕ → Rule
 asserted s A = rule 1 [] (label A (pred (count s)) ∷ [])
 
+-- All other rules.
+abbrev pub otherRules : List ℕ → ℕ → List Rule
+otherRules s A = each (count s) (rulesAt s A)
+
 unfoldable pub translation : List ℕ → ℕ → List Rule
-translation s A = each (count s) (rulesAt s A) ++ (asserted s A ∷ [])
+translation s A = otherRules s A ++ (asserted s A ∷ [])
 
 -- ---- how many
 -- Two for kinds 0 to 4 and 9, four for a test under a box, three otherwise. The translator takes no other kind.

@@ -13,9 +13,11 @@ pub mod Written
 pub mod Demand3
 pub mod SecondLine
 pub mod Standing
+pub mod BoxTest
 pub mod InForm
 pub mod Agreement
 pub mod Levels
 pub mod Paper
 pub mod Expander
 pub mod Demand1
+pub mod Demand2

@@ -12,9 +12,9 @@ use Rattle.meaning.specs.Rule.{ruleSize, words}
 use Rattle.meaning.specs.Translation.{translation, context, ruleSum}
 use Rattle.meaning.specs.Judge.{AllHold}
 use Rattle.meaning.specs.Refusal.{firstOf, starredGrounds}
-use Rattle.meaning.specs.Service.{translateAnswer, translateAfter}
+use Rattle.meaning.specs.Service.{translateAnswer, translateAfter, judgeAnswer}
 use Rattle.meaning.specs.WellFormed.{Trace}
-use Rattle.theorems.specs.Filling.{Filling, labelOf, Meets}
+use Rattle.theorems.specs.Filling.{Filling, labelOf, others, Meets}
 
 -- The translator accepts the formula; whether its output has room is another matter.
 abbrev pub Accepted : List ℕ → ℕ → Type 0
@@ -41,7 +41,17 @@ pub record Demand3 : Type 0 where
   -- Where the translator refuses nothing, the formula is accepted, and the rules' words stand at the output's start.
   pub written : (s : List ℕ) (A : ℕ) (out : List ℕ) → translateAnswer s A (length out) .refusal ≡ 0
       → Accepted s A × (take (ruleSize * translateAnswer s A (length out) .count) (translateAfter s A out) ≡ words (translation s A))
+  -- All but the last are the rules without the one that asserts the whole formula.
+  pub others-written : (s : List ℕ) (A : ℕ) (out : List ℕ) → translateAnswer s A (length out) .refusal ≡ 0
+      → take (ruleSize * pred (translateAnswer s A (length out) .count)) (translateAfter s A out) ≡ others s A
   pub one-filling : (s : List ℕ) (A L : ℕ) (cells : List ℕ) → Accepted s A → Trace A L cells → OneFilling s A L cells
-  -- So many rules come from each record, and one asserts the whole formula: at most 4 n + 1.
+  -- The judge refuses these rules over no filling, and says yes to one filling alone.
+  pub judge-takes : (s : List ℕ) (A L : ℕ) (cells f : List ℕ) → Accepted s A → Trace A L cells → Filling A (count s) L cells f
+      → judgeAnswer (others s A) (A + count s) L f .refusal ≡ 0
+  pub judge-says : (s : List ℕ) (A L : ℕ) (cells f : List ℕ) → Accepted s A → Trace A L cells → Filling A (count s) L cells f
+      → (judgeAnswer (others s A) (A + count s) L f .holds ≡ 1) ↔ Meets s A L f
+  pub judge-picks : (s : List ℕ) (A L : ℕ) (cells f : List ℕ) → Accepted s A → Trace A L cells → Filling A (count s) L cells f
+      → (one : OneFilling s A L cells) → (judgeAnswer (others s A) (A + count s) L f .holds ≡ 1) ↔ (f ≡ one .filling)
+  -- The count is the sum over the records and one that asserts the whole formula: at most 4 n + 1.
   pub counted : (s : List ℕ) (A : ℕ) → length (translation s A) ≡ ruleSum s (count s) + 1
   pub few-rules : (s : List ℕ) (A : ℕ) → length (translation s A) ≤ 4 * count s + 1

@@ -7,10 +7,10 @@ use Prim.Native.Nat.{ℕ, _+_, _*_, _<_, _≤_}
 use mathlib.Core.Path.{_≡_}
 use mathlib.Core.List.{List}
 use lib.ListN.{length, getD}
-use Rattle.meaning.specs.Run.{each, cellOf}
+use Rattle.meaning.specs.Run.{cellOf}
 use Rattle.meaning.specs.Record.{count}
 use Rattle.meaning.specs.Rule.{words}
-use Rattle.meaning.specs.Translation.{rulesAt}
+use Rattle.meaning.specs.Translation.{otherRules}
 use Rattle.meaning.specs.Judge.{AllHold}
 
 pub record Filling (A n L : ℕ) (cells f : List ℕ) : Type 0 where
@@ -22,7 +22,7 @@ abbrev pub labelOf : ℕ → ℕ → List ℕ → ℕ → ℕ → ℕ
 labelOf A n f r k = cellOf (A + n) f k (A + r)
 
 abbrev pub others : List ℕ → ℕ → List ℕ
-others s A = words (each (count s) (rulesAt s A))
+others s A = words (otherRules s A)
 
 abbrev pub Meets : List ℕ → ℕ → ℕ → List ℕ → Type 0
 Meets s A L f = AllHold (others s A) L (cellOf (A + count s) f)

@@ -1,5 +1,6 @@
 -- The demands as theorems about the definitions of meaning.
 pub mod Demand1
+pub mod Demand2
 pub mod Filling
 pub mod Demand3
 pub mod Why
