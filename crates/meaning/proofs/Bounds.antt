@@ -3,7 +3,7 @@
 use Prim.Native.Nat.{ℕ, zero, suc, _+_, _≤_, _<_, zero-le, min, max}
 use mathlib.Core.Path.{_≡_, refl, subst⁻¹}
 use mathlib.Core.Logic.{_⊎_, inl, inr}
-use native.Mathlib.Nat.{le-refl, le-antisymm, eq-or-lt-of-le, le-of-suc-le-suc}
+use native.Mathlib.Nat.{le-refl, eq-or-lt-of-le, le-of-suc-le-suc}
 use native.Mathlib.Decide.{decLe}
 use native.Mathlib.Numerals.{add-one}
 use native.Mathlib.Omega.{arith}
@@ -26,10 +26,6 @@ all-suc P n h p j l = elim (below-suc l) [ inl e ↦ subst⁻¹ P e p | inr m �
 pub le-above : (a b : ℕ) → ((v : ℕ) → 0 < v → v ≤ a → v ≤ b) → a ≤ b
 le-above zero b h = zero-le
 le-above (suc a) b h = h (suc a) (omega arith) (le-refl _)
-
--- Two numbers are equal if the same v above 0 are at most them.
-pub same-above : (a b : ℕ) → ((v : ℕ) → 0 < v → v ≤ a → v ≤ b) → ((v : ℕ) → 0 < v → v ≤ b → v ≤ a) → a ≡ b
-same-above a b f g = le-antisymm (le-above a b f) (le-above b a g)
 
 -- ---- the greatest
 -- Each member is at most it.

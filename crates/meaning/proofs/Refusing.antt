@@ -31,10 +31,7 @@ next-stage stage index turn later l = not-after _ _ (inl l)
 next-record : (stage r turn : ℕ) → NotAfter (position stage r turn) (position stage (suc r) 0)
 next-record stage r turn = not-after _ _ (inr (refl, inl (le-refl _)))
 
--- the next turn of a record, or the same.
-next-turn : (stage r turn more : ℕ) → turn < more → NotAfter (position stage r turn) (position stage r more)
-next-turn stage r turn more l = not-after _ _ (inr (refl, inr (refl, l)))
-
+-- or the same position.
 here : (stage r turn : ℕ) → NotAfter (position stage r turn) (position stage r turn)
 here stage r turn = λ p b. b
 

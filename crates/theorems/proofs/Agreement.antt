@@ -65,8 +65,8 @@ module _ (s : List ℕ) {A L : ℕ} {cells f : List ℕ} (accepted : Accepted s 
       let ws = words ρs in
       let sizes = sizes-clear mostColumns (A + count s) L f (narrow formed) (trace .some) (trace .few) (φ .size) in
       let whole : ground13-length ws .applies ≡ false =
-          let n = words-length ρs in
-          simp tests (omega arith, omega arith) in
+      let n = words-length ρs in
+      simp tests (omega arith, omega arith) in
       let forms = each-clear (λ i. ground13 ws (A + count s) i ∷ []) (ruleCount ws) (λ i l. (every-word _ ρs .1 form i l, tt)) in
       judge-refusal ws (A + count s) L f
       ∙ clear-none _ (simp clear-append ((sizes, (whole, forms)), cells-clear f (φ .low)))

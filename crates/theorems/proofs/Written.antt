@@ -43,8 +43,8 @@ module _ (s : List ℕ) (A : ℕ) (out : List ℕ) (e : translateAnswer s A (len
       let ρs = each (count s) (rulesAt s A) in
       let last = words (asserted s A ∷ []) in
       let size : length (words ρs) ≡ ruleSize * pred (translateAnswer s A (length out) .count) =
-          let n = length-append ρs (asserted s A ∷ []) in
-          omega (arith, words-length ρs, counted) in
+      let n = length-append ρs (asserted s A ∷ []) in
+      omega (arith, words-length ρs, counted) in
       rw (eq-eqb _ 0 e, words-append ρs (asserted s A ∷ []), append-assoc (words ρs) last (drop (length (words ρs ++ last)) out))
       (take-at (words ρs) _ _ size)
 
