@@ -1,0 +1,5 @@
+-- What the proofs of several functions cite.
+pub mod Stored
+pub mod Along
+pub mod Diagonal
+pub mod Same
