@@ -22,9 +22,12 @@ use Rattle.checks.proofs.refusal as refusal
 use Rattle.paths.proofs.stars as stars
 use Rattle.expand.proofs as expand
 use Rattle.trace.proofs as trace
-use Rattle.squares.specs.Cells.{at}
-use Rattle.squares.proofs.square as square
-use Rattle.squares.proofs.star as star
+use Rattle.rows.specs.Cells.{at}
+use Rattle.rows.proofs as rows
+use Rattle.squares.proofs as squares
+use Rattle.joining.proofs as joining
+use Rattle.closing.proofs as closing
+use Rattle.tables.proofs as tables
 use Rattle.value.proofs as value
 use Rattle.judge.proofs as judge
 use Rattle.translate.proofs as translate
@@ -74,14 +77,24 @@ pub record OneOutcome : Type 0 where
   -- trace
   pub wrong-size : OneFits trace.wrong_size.Kinds.ps trace.wrong_size.Kinds.r trace.wrong_size.Reads.Post
   pub cells-refusal : OneFits trace.cells_refusal.Kinds.ps trace.cells_refusal.Kinds.r trace.cells_refusal.Reads.Post
-  -- squares
-  pub move-square : OneSquare square.move_square.Kinds.ps square.move_square.Kinds.r square.move_square.Reads.Post (λ κs a. a .1 .0) (λ κs a o. o .0)
-  pub test-square : OneSquare square.test_square.Kinds.ps square.test_square.Kinds.r square.test_square.Reads.Post (λ κs a. a .1 .1 .0) (λ κs a o. o .0)
-  pub join : OneSquare square.join.Kinds.ps square.join.Kinds.r square.join.Reads.Post (λ κs a. a .1 .1 .1 .1 .1 .0) (λ κs a o. o .1 .1 .1 .1 .0)
-  pub cap : OneSquare square.cap.Kinds.ps square.cap.Kinds.r square.cap.Reads.Post (λ κs a. a .1 .1 .1 .0) (λ κs a o. o .1 .0)
-  pub close : OneSquare star.close.Kinds.ps star.close.Kinds.r star.close.Reads.Post (λ κs a. a .1 .0) (λ κs a o. o .1 .0)
-  pub run-on : OneSquare star.run_on.Kinds.ps star.run_on.Kinds.r star.run_on.Reads.Post (λ κs a. a .1 .0) (λ κs a o. o .1 .0)
-  pub run-back : OneSquare star.run_back.Kinds.ps star.run_back.Kinds.r star.run_back.Reads.Post (λ κs a. a .1 .0) (λ κs a o. o .1 .0)
+  -- rows
+  pub part : OneFits rows.part.Kinds.ps rows.part.Kinds.r rows.part.Reads.Post
+  pub row-of : OneFits rows.row_of.Kinds.ps rows.row_of.Kinds.r rows.row_of.Reads.Post
+  pub put-row : OneFits rows.put_row.Kinds.ps rows.put_row.Kinds.r rows.put_row.Reads.Post
+  pub raise : OneFits rows.raise.Kinds.ps rows.raise.Kinds.r rows.raise.Reads.Post
+  -- squares, joining, closing
+  pub move-square : OneSquare squares.move_square.Kinds.ps squares.move_square.Kinds.r squares.move_square.Reads.Post (λ κs a. a .1 .0) (λ κs a o. o .0)
+  pub test-square : OneSquare squares.test_square.Kinds.ps squares.test_square.Kinds.r squares.test_square.Reads.Post (λ κs a. a .1 .1 .0) (λ κs a o. o .0)
+  pub join : OneSquare joining.join.Kinds.ps joining.join.Kinds.r joining.join.Reads.Post (λ κs a. a .1 .1 .1 .1 .1 .0) (λ κs a o. o .1 .1 .1 .1 .0)
+  pub cap : OneSquare squares.cap.Kinds.ps squares.cap.Kinds.r squares.cap.Reads.Post (λ κs a. a .1 .1 .1 .0) (λ κs a o. o .1 .0)
+  pub close : OneSquare closing.close.Kinds.ps closing.close.Kinds.r closing.close.Reads.Post (λ κs a. a .1 .0) (λ κs a o. o .1 .0)
+  pub run-on : OneSquare closing.run_on.Kinds.ps closing.run_on.Kinds.r closing.run_on.Reads.Post (λ κs a. a .1 .0) (λ κs a o. o .1 .0)
+  pub run-back : OneSquare closing.run_back.Kinds.ps closing.run_back.Kinds.r closing.run_back.Reads.Post (λ κs a. a .1 .0) (λ κs a o. o .1 .0)
+  -- tables
+  pub row-start : OneFits tables.row_start.Kinds.ps tables.row_start.Kinds.r tables.row_start.Reads.Post
+  pub put-constant : OneFits tables.put_constant.Kinds.ps tables.put_constant.Kinds.r tables.put_constant.Reads.Post
+  pub put-atom : OneFits tables.put_atom.Kinds.ps tables.put_atom.Kinds.r tables.put_atom.Reads.Post
+  pub put-modal : OneFits tables.put_modal.Kinds.ps tables.put_modal.Kinds.r tables.put_modal.Reads.Post
   -- expand, value, judge, translate, listing
   pub expand : OneFits expand.expand.Kinds.ps expand.expand.Kinds.r expand.expand.Reads.Post
   pub value : OneFits value.value.Kinds.ps value.value.Kinds.r value.value.Reads.Post

@@ -2,4 +2,5 @@
 pub mod Stored
 pub mod Along
 pub mod Diagonal
+pub mod Following
 pub mod Same

@@ -11,7 +11,7 @@ use Rattle.meaning.specs.Record.{count, kindAt, Sort, formula, path, sortOf}
 use Rattle.meaning.specs.Tree.{formAt}
 use Rattle.meaning.specs.Value.{valueOf}
 use Rattle.meaning.specs.Service.{rowBy, rowOf, table}
-use Rattle.squares.specs.Cells.{rowAt, Put}
+use Rattle.rows.specs.Cells.{rowAt, Put}
 use Rattle.value.specs.Valuing.{Under, Legal, Asked, Valued}
 use Rattle.value.proofs.Table.{row-end}
 use Rattle.value.proofs.Tabled.{rows-written}

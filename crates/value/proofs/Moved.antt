@@ -13,8 +13,9 @@ use Rattle.meaning.proofs.Bounds.{le-above}
 use Rattle.meaning.proofs.Reach.{only-there, sequence-elim}
 use Rattle.records.specs.Code.{wayOf}
 use Rattle.records.proofs.Held.{path-first, join-second}
-use Rattle.squares.specs.Cells.{at, joinOf}
-use Rattle.squares.specs.Closing.{Moving}
+use Rattle.rows.specs.Cells.{at}
+use Rattle.joining.specs.Joining.{joinOf}
+use Rattle.closing.specs.Closing.{Moving}
 use Rattle.value.specs.Valuing.{Asked, Moves, PathSquare}
 use Rattle.value.proofs.Meant.{sq, square-move, square-test, square-join}
 use Rattle.value.proofs.Children.{ask-first, ask-second}

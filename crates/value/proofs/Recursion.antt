@@ -13,14 +13,16 @@ use Rattle.meaning.specs.Tree.{pathAt}
 use Rattle.meaning.specs.Value.{Square, modalRow, moveSquare, testSquare, starSquare}
 use Rattle.meaning.proofs.Onward.{square-bound}
 use Rattle.records.specs.Code.{modeOf, wayOf}
-use Rattle.squares.specs.Cells.{at, rowAt, Holds, Put, Part, joinOf}
+use Rattle.rows.specs.Cells.{at, rowAt, Holds, Put}
+use Rattle.joining.specs.Joining.{Part, joinOf}
 use Rattle.value.specs.Valuing.{Under, Right, Valued, Squared}
 use Rattle.meaning.proofs.Nodes.{differs}
 use Rattle.records.proofs.Numbers.{path-number, formula-number}
 use Rattle.value.proofs.Meant.{val, sq, value-constant, value-atom, value-modal}
-use Rattle.squares.proofs.Closure.{star-again}
+use Rattle.closing.proofs.Closure.{star-again}
 use Rattle.value.proofs.Meant.{square-move, square-test, square-join, square-star}
-use Rattle.squares.proofs.Same.{Agree, holds-same, joined-same, star-same, modal-same}
+use Rattle.rows.proofs.Same.{Agree, holds-same, star-same, modal-same}
+use Rattle.joining.proofs.Joined.{joined-same}
 use Rattle.value.proofs.Table.{under-all, steady-same, steady-lower, steady-then, put-right, put-steady}
 use Rattle.value.proofs.Children.{AskedAs, test-formula, part-first, part-second, modal-path, modal-formula}
 use Rattle.records.proofs.Held.{Childless, constant-first, leaf-second, atom-first}

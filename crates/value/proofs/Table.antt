@@ -13,7 +13,7 @@ use Rattle.meaning.specs.Record.{kindAt, fieldA, fieldB, Sort, formula, sortOf,
 use Rattle.meaning.specs.Tree.{formAt}
 use Rattle.meaning.specs.Value.{valueOf}
 use Rattle.meaning.proofs.Bounds.{le-or-lt}
-use Rattle.squares.specs.Cells.{rowAt, Put}
+use Rattle.rows.specs.Cells.{rowAt, Put}
 use Rattle.value.specs.Valuing.{Under, itself, first, second, Right, Steady}
 use Rattle.meaning.proofs.Nodes.{differs}
 

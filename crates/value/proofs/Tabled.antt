@@ -8,7 +8,7 @@ use native.Mathlib.Omega.{arith}
 use lib.ListN.{length, getD, take, drop, length-drop, take-append-drop}
 use lib.Seq.{getD-drop, take-add, ext-getD, take-suc, length-take-le}
 use Rattle.meaning.specs.Run.{each, tabulate, written}
-use Rattle.squares.specs.Cells.{rowAt}
+use Rattle.rows.specs.Cells.{rowAt}
 
 -- The first n values from `start` on.
 take-tabulate : (t : List ℕ) (start n : ℕ) (f : ℕ → ℕ) → start + n ≤ length t

@@ -13,9 +13,11 @@ use Rattle.meaning.specs.Value.{Row, Square, testSquare, sequenceSquare}
 use Rattle.meaning.proofs.Bounds.{le-above}
 use Rattle.meaning.proofs.Fails.{and-holds}
 use Rattle.meaning.proofs.Reach.{only-there, value-there, there-bound, sequence-elim, sequence-intro}
-use Rattle.squares.specs.Cells.{at, rowAt, Holds, capped, joinOf}
+use Rattle.rows.specs.Cells.{at, rowAt, Holds}
+use Rattle.squares.specs.Places.{capped}
+use Rattle.joining.specs.Joining.{joinOf}
 use Rattle.value.specs.Valuing.{Under, Valued, Squared}
-use Rattle.squares.proofs.Same.{Agree, holds-same}
+use Rattle.rows.proofs.Same.{Agree, holds-same}
 use Rattle.value.proofs.Children.{AskedAs, Tested, part-first, tested-formula}
 use Rattle.value.proofs.Recursion.{test-valued, test-agrees, join-done}
 

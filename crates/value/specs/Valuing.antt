@@ -18,7 +18,7 @@ use Rattle.meaning.specs.Record.{count, kindAt, kindByte, fieldA, fieldB, Sort,
 use Rattle.meaning.specs.Tree.{formAt, pathAt}
 use Rattle.meaning.specs.Value.{valueOf, squareOf}
 use Rattle.meaning.specs.WellFormed.{WellFormed, Trace}
-use Rattle.squares.specs.Cells.{rowAt, Holds}
+use Rattle.rows.specs.Cells.{rowAt, Holds}
 
 pub data Under (s : List ℕ) : ℕ → ℕ → Type 0 where
   itself : {r : ℕ} → Under s r r

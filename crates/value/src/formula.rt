@@ -6,13 +6,11 @@ ghost use lib.Dec.{eqb};
 ghost use Rattle.meaning.specs.Record.{count, formula, path, sortOf, kindAt, kindByte};
 ghost use Rattle.meaning.specs.Value.{starSquare};
 ghost use Rattle.meaning.specs.WellFormed.{WellFormed};
-ghost use Rattle.squares.specs.Cells.{at, Holds};
+ghost use Rattle.rows.specs.Cells.{at, Holds};
 ghost use Rattle.value.specs.Valuing.{Asked, Valued, Squared, Moves, PathSquare};
-use crate::row;
 use records::kind;
 use records::layout;
-use squares::square;
-use squares::star;
+use rows::Square;
 
 // Whether a path of the kind with the first part a is a sequence that begins with a test: it needs no square for the test.
 fn begins_with_test(records: &[u8], kind: u8, a: usize) -> bool
@@ -38,20 +36,20 @@ pub fn value_formula(
     ensures { λ _. ⌜ Valued (now (records .entry)) atoms l (now (cells .entry)) r (now (table .entry)) (now (table .exit)) ⌝ }
 {
     let kind = layout::kind_at(records, r);
-    let start = row::row_start(r, l);
+    let start = tables::row_start(r, l);
     if kind < kind::ATOM {
-        row::put_constant(table, start, l, kind * 2);
+        tables::put_constant(table, start, l, kind * 2);
         return;
     }
     let a = layout::field_a(records, r);
     if kind == kind::ATOM {
-        row::put_atom(table, start, l, cells, atoms, a);
+        tables::put_atom(table, start, l, cells, atoms, a);
         return;
     }
     let b = layout::field_b(records, r);
     value_formula(records, atoms, l, cells, b, table);
     let s = path_square(records, atoms, l, cells, a, table);
-    row::put_modal(kind, &s, table, row::row_start(b, l), start, l);
+    tables::put_modal(kind, &s, table, tables::row_start(b, l), start, l);
 }
 
 // The square of path p; writes the rows of the formulas in it.
@@ -62,24 +60,24 @@ fn path_square(
     cells: &[u8],
     p: usize,
     table: &mut [u8],
-) -> [u8; 1024]
+) -> Square
     requires { ⌜ Asked (now records) atoms l (now cells) p (now table) × (sortOf (kindAt (now records) p) ≡ path) ⌝ }
     ensures { λ s. ⌜ Valued (now (records .entry)) atoms l (now (cells .entry)) p (now (table .entry)) (now (table .exit)) × Squared (now (records .entry)) atoms l (now (cells .entry)) p s ⌝ }
 {
     let kind = layout::kind_at(records, p);
     if kind < kind::TEST {
-        return square::move_square(kind, l);
+        return squares::move_square(kind, l);
     }
     let a = layout::field_a(records, p);
     if kind == kind::TEST {
         value_formula(records, atoms, l, cells, a, table);
-        return square::test_square(&table[..], row::row_start(a, l), l);
+        return squares::test_square(&table[..], tables::row_start(a, l), l);
     }
     if begins_with_test(records, kind, a) {
         let f = layout::field_a(records, a);
         value_formula(records, atoms, l, cells, f, table);
         let mut t = path_square(records, atoms, l, cells, layout::field_b(records, p), table);
-        square::cap(&mut t, &table[..], row::row_start(f, l), l);
+        squares::cap(&mut t, &table[..], tables::row_start(f, l), l);
         return t;
     }
     let mut s = path_square(records, atoms, l, cells, a, table);
@@ -91,12 +89,12 @@ fn path_square(
     let q = path_square(records, atoms, l, cells, b, table);
     let first = layout::kind_at(records, a);
     let next = layout::kind_at(records, b);
-    square::join(kind, first, next, &mut s, &q, l);
+    joining::join(kind, first, next, &mut s, &q, l);
     s
 }
 
 // The square of path p becomes its star's. A star is one already, and one move with tests about it leads to one instant from each.
-fn close(records: &[u8], p: usize, s: &mut [u8; 1024], l: usize)
+fn close(records: &[u8], p: usize, s: &mut Square, l: usize)
     requires { ⌜ PathSquare (now records) l p (now s) ⌝ }
     ensures { λ _. ⌜ Holds l (now (s .exit)) (starSquare l (at (now (s .entry)))) ⌝ }
 {
@@ -105,11 +103,11 @@ fn close(records: &[u8], p: usize, s: &mut [u8; 1024], l: usize)
     }
     let way = one_way(records, p);
     if way == kind::STEP {
-        star::run_on(s, l);
+        closing::run_on(s, l);
     } else if way == kind::BACK {
-        star::run_back(s, l);
+        closing::run_back(s, l);
     } else {
-        star::close(s, l);
+        closing::close(s, l);
     }
 }
 

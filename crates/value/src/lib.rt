@@ -1,6 +1,5 @@
 // Valuing a formula over a trace.
 mod formula;
-mod row;
 
 ghost use mathlib.Core.Path.{_≡_};
 ghost use Prim.Native.Nat.{pred, _<_};
@@ -57,7 +56,7 @@ fn first_refusal(records: &[u8], atoms: u64, instants: u64, cells: &[u8], room: 
     if y != refusals::ACCEPTED {
         return y;
     }
-    if room < row::row_start(layout::record_count(records), instants as usize) {
+    if room < tables::row_start(layout::record_count(records), instants as usize) {
         return refusals::NO_ROOM;
     }
     refusals::ACCEPTED
@@ -69,7 +68,7 @@ fn fill(records: &[u8], atoms: usize, l: usize, cells: &[u8], out: &mut [u8]) ->
     ensures { λ v. ⌜ (v ≡ valueOf l (cellOf atoms (now (cells .entry))) (formAt (now (records .entry)) (pred (count (now (records .entry))))) 0) × (now (out .exit) ≡ written (table (now (records .entry)) atoms l (now (cells .entry))) (now (out .entry))) ⌝ }
 {
     let n = layout::record_count(records);
-    row::put_constant(out, 0, row::row_start(n, l), 0);
+    tables::put_constant(out, 0, tables::row_start(n, l), 0);
     formula::value_formula(records, atoms, l, cells, n - 1, out);
-    out[row::row_start(n - 1, l)]
+    out[tables::row_start(n - 1, l)]
 }

@@ -1,0 +1,2 @@
+-- What the proofs of the rows cite.
+pub mod Modal
