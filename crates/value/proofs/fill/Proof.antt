@@ -73,14 +73,5 @@ returns c =
 pub fill-spec : {M : Type 1} → statement M
 fill-spec =
     tie.close
-    (tie.spec
-    (λ c κs. search needs)
-    row-start-requires
-    put-constant-requires
-    sub-value-formula
-    value-formula-requires
-    sub-row-start
-    row-start-requires-2
-    slice-read-result
-    (λ c. search needs)
-    returns)
+    (tie.spec (λ c κs. search needs) row-start-requires put-constant-requires sub-value-formula
+    value-formula-requires sub-row-start row-start-requires-2 slice-read-result (λ c. search needs) returns)

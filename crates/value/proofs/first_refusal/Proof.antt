@@ -81,16 +81,5 @@ returns-6 c =
 pub first-refusal-spec : {M : Type 1} → statement M
 first-refusal-spec =
     tie.close
-    (tie.spec
-    (λ c κs. search needs)
-    returns
-    (λ c κs. search needs)
-    returns-2
-    tree-refusal-requires
-    returns-3
-    (λ c κs. search needs)
-    returns-4
-    (λ c κs. search needs)
-    row-start-requires
-    returns-5
-    returns-6)
+    (tie.spec (λ c κs. search needs) returns (λ c κs. search needs) returns-2 tree-refusal-requires returns-3
+    (λ c κs. search needs) returns-4 (λ c κs. search needs) row-start-requires returns-5 returns-6)

@@ -55,13 +55,5 @@ returns-4 c = c .close .ensures
 pub close-spec : {M : Type 1} → statement M
 close-spec =
     tie.close
-    (tie.spec
-    kind-at-requires
-    returns
-    one-way-requires
-    run-on-requires
-    run-back-requires
-    close-requires
-    returns-2
-    returns-3
-    returns-4)
+    (tie.spec kind-at-requires returns one-way-requires run-on-requires run-back-requires close-requires
+    returns-2 returns-3 returns-4)

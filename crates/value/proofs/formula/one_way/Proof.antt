@@ -84,17 +84,5 @@ returns-2 c h = let inv = c .before .loop .inv in inv .2 _ (Moves.itself (sym (i
 pub one-way-spec : {M : Type 1} → statement M
 one-way-spec =
     tie.close
-    (tie.spec
-    Inv-loop
-    μ-loop
-    (λ c κs. search needs)
-    loop-holds
-    (λ c κs. search needs)
-    (λ c κs. search needs)
-    kind-at-requires-2
-    kind-at-requires-3
-    returns
-    kind-at-requires-4
-    loop-less
-    loop-again
-    returns-2)
+    (tie.spec Inv-loop μ-loop (λ c κs. search needs) loop-holds (λ c κs. search needs) (λ c κs. search needs)
+    kind-at-requires-2 kind-at-requires-3 returns kind-at-requires-4 loop-less loop-again returns-2)
