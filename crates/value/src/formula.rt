@@ -101,13 +101,10 @@ fn close(records: &[u8], p: usize, s: &mut Square, l: usize)
     if layout::kind_at(records, p) == kind::STAR {
         return;
     }
-    let way = one_way(records, p);
-    if way == kind::STEP {
-        closing::run_on(s, l);
-    } else if way == kind::BACK {
-        closing::run_back(s, l);
-    } else {
-        closing::close(s, l);
+    match one_way(records, p) {
+        kind::STEP => closing::run_on(s, l),
+        kind::BACK => closing::run_back(s, l),
+        _ => closing::close(s, l),
     }
 }
 

@@ -24,7 +24,7 @@ run-on-requires : tie.Need-run-on-requires
 unfolding wayOf
 run-on-requires c κs =
     let one = c .before .before in
-    let way = c .before .if2 .taken in
+    let way = c .before .match .keys1 in
     let w = one .before .before .before .before .pre in
     let m = square-moving w (omega arith) (omega arith) (one .one-way .ensures (omega arith)) in
     (w .asked .legal .trace .some, w .asked .legal .trace .few, w .square .size, rw way at m)
@@ -32,28 +32,19 @@ run-on-requires c κs =
 run-back-requires : tie.Need-run-back-requires
 unfolding wayOf
 run-back-requires c κs =
-    let one = c .before .before .before in
-    let way = c .before .if3 .taken in
+    let one = c .before .before in
+    let way = c .before .match .keys2 in
     let w = one .before .before .before .before .pre in
     let m = square-moving w (omega arith) (omega arith) (one .one-way .ensures (omega arith)) in
     (w .asked .legal .trace .few, w .square .size, rw way at m)
 
 close-requires : tie.Need-close-requires
 close-requires c κs =
-    let w = c .before .before .before .before .before .before .before .pre in
+    let w = c .before .before .before .before .before .before .pre in
     (w .asked .legal .trace .few, w .square .size, square-low (w .asked, w .sort) refl _ (w .square))
-
-returns-2 : tie.Need-returns-2
-returns-2 c = c .run-on .ensures
-
-returns-3 : tie.Need-returns-3
-returns-3 c = c .run-back .ensures
-
-returns-4 : tie.Need-returns-4
-returns-4 c = c .close .ensures
 
 pub close-spec : {M : Type 1} → statement M
 close-spec =
     tie.close
     (tie.spec kind-at-requires returns one-way-requires run-on-requires run-back-requires close-requires
-    returns-2 returns-3 returns-4)
+    (λ c. c .run-on .ensures) (λ c. c .run-back .ensures) (λ c. c .close .ensures))
