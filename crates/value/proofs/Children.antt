@@ -6,7 +6,8 @@ use mathlib.Core.List.{List}
 use native.Mathlib.Omega.{arith}
 use lib.ListN.{length}
 use Rattle.meaning.specs.Record.{kinds, kindAt, kindByte, fieldA, fieldB, Sort, formula, path, sortOf, columnsOf}
-use Rattle.meaning.specs.Record.{atomNumber, child, useA, useB}
+use Rattle.meaning.specs.Record.{atomNumber, child, useA, useB, mostRecords}
+use Rattle.meaning.specs.Refusal.{mostInstants}
 use Rattle.records.proofs.Held.{test-first, path-first, join-second, modal-first, modal-second}
 use Rattle.records.proofs.Numbers.{path-number, formula-number}
 use Rattle.records.proofs.Ranges.{stretch}
@@ -47,7 +48,7 @@ module _ {s : List ℕ} {A L : ℕ} {cells : List ℕ} {r : ℕ} {t : List ℕ} 
   row-within f e = omega (arith, row-room)
 
   -- The numbers from which the row's start is computed are low.
-  pub row-low : (r ≤ 255) × (L ≤ 32)
+  pub row-low : (r ≤ mostRecords) × (L ≤ mostInstants)
   row-low = (omega (arith, w .index, w .legal .formed .few), w .legal .trace .few)
 
   -- An atom's number is below the number of atoms.

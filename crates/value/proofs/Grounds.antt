@@ -42,7 +42,7 @@ module _ (s : List ℕ) (A L : ℕ) (cells : List ℕ) (room : ℕ) where
       let c = clear-append (grounds9 cells) last .0 (t .1) in
       let (few, some, short, size) = size-fits mostAtoms A L cells size-right in
       record {
-        formed = clear-well-formed false s A .0 (length-right, (le-ltb 32 A few, t .0));
+        formed = clear-well-formed false s A .0 (length-right, (le-ltb mostAtoms A few, t .0));
         trace = record { some = some; few = short; size = size; low = cells-low cells (c .0) };
         enough = ltb-false room (count s * L) (c .1 .0);
       }

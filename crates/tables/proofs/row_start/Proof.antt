@@ -1,13 +1,15 @@
--- `row_start` meets its contract, which is its product; at most 255 * 32, it fits.
+-- `row_start` meets its contract, which is its product, and fits.
 use native.Mathlib.Nat.{mul-le-mul}
 use native.Mathlib.Omega.{arith}
+use Rattle.meaning.specs.Record.{mostRecords}
+use Rattle.meaning.specs.Refusal.{mostInstants}
 use borrow.Author.Needs.{needs}
 use Rattle.tables.proofs.row_start.Statement.{statement}
 use Rattle.tables.proofs.row_start.Tie as tie
 
 mul-result : tie.Need-mul-result
 mul-result c =
-    omega (arith, mul-le-mul {n₁ = c .args .r} {m₁ = c .args .l} {n₂ = 255} {m₂ = 32} (omega arith) (omega arith))
+    omega (arith, mul-le-mul {n₁ = c .args .r} {m₁ = c .args .l} {n₂ = mostRecords} {m₂ = mostInstants} (omega arith) (omega arith))
 
 pub row-start-spec : {M : Type 1} → statement M
 row-start-spec = tie.close (tie.spec mul-result (λ c. search needs))
