@@ -37,19 +37,16 @@ pub fn value_formula(
 {
     let kind = layout::kind_at(records, r);
     let start = tables::row_start(r, l);
-    if kind < kind::ATOM {
-        tables::put_constant(table, start, l, kind * 2);
-        return;
+    match kind {
+        kind::FALSE | kind::TRUE => tables::put_constant(table, start, l, kind * 2),
+        kind::ATOM => tables::put_atom(table, start, l, cells, atoms, layout::field_a(records, r)),
+        _ => {
+            let b = layout::field_b(records, r);
+            value_formula(records, atoms, l, cells, b, table);
+            let s = path_square(records, atoms, l, cells, layout::field_a(records, r), table);
+            tables::put_modal(kind, &s, table, tables::row_start(b, l), start, l);
+        }
     }
-    let a = layout::field_a(records, r);
-    if kind == kind::ATOM {
-        tables::put_atom(table, start, l, cells, atoms, a);
-        return;
-    }
-    let b = layout::field_b(records, r);
-    value_formula(records, atoms, l, cells, b, table);
-    let s = path_square(records, atoms, l, cells, a, table);
-    tables::put_modal(kind, &s, table, tables::row_start(b, l), start, l);
 }
 
 // The square of path p; writes the rows of the formulas in it.

@@ -54,19 +54,19 @@ module _ {C : path.Claims} {P : In 3 path-kinds.ps} {Q : Out 3 path-kinds.ps pat
 
 -- ---- places of value_formula
 module _ {C : formula.Claims} {P : In 3 formula-kinds.ps} {Q : Out 3 formula-kinds.ps formula-kinds.r} where
-  abbrev row : formula.After-field-a C P Q → formula.After-row-start C P Q
-  row a = a .before .before
-
   abbrev begin : formula.After-row-start C P Q → formula.Start C P Q
   begin r = r .before .before .before .before .before
 
   -- A formula that is no constant and no atom is a diamond or a box.
-  modal : (e : formula.Else2 C P Q) → 3 ≤ row (e .before) .before .kind-at .result
-  modal e = let two = e .before .before .if1 .left in let other = e .if2 .left in omega arith
+  abbrev row : formula.Else1 C P Q → formula.After-row-start C P Q
+  row e = e .before .before
 
-  -- In a diamond or a box, back to its second field, and to its path's square.
+  modal : (e : formula.Else1 C P Q) → 3 ≤ row e .before .kind-at .result
+  modal e = let two = e .if1 .left in let other = e .before .match .rest .1 in omega arith
+
+  -- There, back to its second field, and to its path's square.
   abbrev goal : formula.After-path-square-arg C P Q → formula.After-field-b C P Q
-  goal c = c .before .before .before .before .before
+  goal c = c .before .before .before .before .before .before
 
   abbrev along : formula.After-put-modal-arg C P Q → formula.After-path-square C P Q
   along c = c .before .before .before .before
@@ -182,53 +182,57 @@ pub +path-square+value-formula-spec : {M : Type 1} → statement M
     λ t. formula.spec (formula-claims t) (at t value-formula.Pre) value-formula.Post
     (λ c κs. search needs)
     (λ c κs. search needs)
-    -- a constant
-    (λ c. search needs)
-    (λ c κs. row-within (begin (c .before .before) .pre .1 .0) (c .before .before .row-start .ensures) refl)
-    (λ c. search needs)
-    (λ c. let i = c .before .before .before .before in
-    let r = i .before in
-    constant-done (begin r .pre .1) (r .before .kind-at .ensures) (r .row-start .ensures) (i .if1 .taken)
-    (c .before .before .put-constant .ensures))
     -- an atom
     (λ c κs. search needs)
-    (λ c κs. let a = c .before .before in
-    let r = row a in
+    (λ c κs. let k = c .before .before in
+    let r = k .before in
     let w = begin r .pre .1 .0 in
-    let e = sym (r .before .kind-at .ensures) ∙ c .before .if2 .taken in
-    (row-within w (r .row-start .ensures) refl, w .legal .trace .size, atom-low w e (a .field-a .ensures)))
+    let e = sym (r .before .kind-at .ensures) ∙ k .match .keys1 in
+    (row-within w (r .row-start .ensures) refl, w .legal .trace .size, atom-low w e (c .field-a .ensures)))
+    -- a constant
     (λ c. search needs)
-    (λ c. let i = c .before .before .before .before in
-    let r = row (i .before) in
-    atom-done (begin r .pre .1) (r .before .kind-at .ensures) (r .row-start .ensures) (i .if2 .taken)
-    (i .before .field-a .ensures) (c .before .before .put-atom .ensures))
+    (λ c κs. let r = c .before .before .before in
+    row-within (begin r .pre .1 .0) (r .row-start .ensures) refl)
     -- a diamond or a box
     (λ c κs. search needs)
     (λ c κs. let b = c .before in
-    let r = row (b .before .before) in
+    let r = row (b .before) in
     modal-formula (begin r .pre) (r .before .kind-at .ensures) (modal (b .before)) (b .field-b .ensures))
+    (λ c κs. search needs)
     (λ c κs. let e = goal c .before in
-    let r = row (e .before) in
-    child-along (modal-path (begin r .pre) (r .before .kind-at .ensures) (modal e) (e .before .field-a .ensures)) (search))
+    let r = row e in
+    child-along (modal-path (begin r .pre) (r .before .kind-at .ensures) (modal e) (c .before .field-a2 .ensures)) (search))
     (λ c κs. let b = goal (along c .before) in
-    let r = row (b .before .before) in
+    let r = row (b .before) in
     row-low (modal-formula (begin r .pre) (r .before .kind-at .ensures) (modal (b .before)) (b .field-b .ensures) .1 .0))
     (λ c κs. let x = along (c .before) in
     let b = goal (x .before) in
-    let r = row (b .before .before) in
-    let v = x .before .before .before .before .value-formula .ensures in
+    let r = row (b .before) in
+    let v = x .before .before .before .before .before .value-formula .ensures in
     let h = modal-formula (refl, begin r .pre .1) (r .before .kind-at .ensures) (modal (b .before)) (b .field-b .ensures) in
     let end = row-end (begin r .args .l) (h .0) in (
       row-within (begin r .pre .1 .0) (r .row-start .ensures) (x .path-square .ensures .0 .steady .size ∙ v .steady .size),
       omega (arith, c .row-start2 .ensures, r .row-start .ensures),
       row-low (h .1 .0) .1,
     ))
+    -- each one's row
+    (λ c. search needs)
+    (λ c. let f = c .before .before .before in
+    let k = f .before .before in
+    let r = k .before in
+    atom-done (begin r .pre .1) (r .before .kind-at .ensures) (r .row-start .ensures) (k .match .keys1) (f .field-a .ensures)
+    (c .before .before .put-atom .ensures))
+    (λ c. search needs)
+    (λ c. let i = c .before .before .before .before in
+    let r = i .before .before in
+    constant-done (begin r .pre .1) (r .before .kind-at .ensures) (r .row-start .ensures) (let low = i .if1 .taken in omega arith)
+    (c .before .before .put-constant .ensures))
     (λ c. search needs)
     (λ c. let m = c .before .before .before in
     let x = along (m .before) in
     let b = goal (x .before) in
-    let a = b .before .before in
-    let r = row a in
-    modal-done (begin r .pre .1) (r .before .kind-at .ensures) (r .row-start .ensures) (modal (b .before)) (a .field-a .ensures)
-    (b .field-b .ensures) (m .row-start2 .ensures) (x .before .before .before .before .value-formula .ensures)
-    (x .path-square .ensures .0) (x .path-square .ensures .1) (c .before .before .put-modal .ensures))
+    let r = row (b .before) in
+    modal-done (begin r .pre .1) (r .before .kind-at .ensures) (r .row-start .ensures) (modal (b .before))
+    (x .before .before .field-a2 .ensures) (b .field-b .ensures) (m .row-start2 .ensures)
+    (x .before .before .before .before .before .value-formula .ensures) (x .path-square .ensures .0)
+    (x .path-square .ensures .1) (c .before .before .put-modal .ensures))
