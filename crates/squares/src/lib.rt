@@ -24,6 +24,7 @@ fn next_cell(kind: u8) -> usize
     }
 }
 
+// A step or a back step: 2 from each instant to the one beside it.
 pub fn move_square(kind: u8, l: usize) -> Square
     requires { ⌜ l ≤ mostInstants ⌝ }
     ensures { λ s. ⌜ Holds l s (moveSquare (wayOf kind)) ⌝ }

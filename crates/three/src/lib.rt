@@ -3,6 +3,7 @@ ghost use mathlib.Core.Path.{_≡_};
 ghost use Prim.Native.Nat.{min, max};
 ghost use Rattle.meaning.specs.Three.{imp, negation};
 
+// The value of "u and v".
 pub fn least(u: u8, v: u8) -> u8
     ensures { λ w. ⌜ w ≡ min u v ⌝ }
 {
@@ -12,6 +13,7 @@ pub fn least(u: u8, v: u8) -> u8
     v
 }
 
+// The value of "u or v".
 pub fn greatest(u: u8, v: u8) -> u8
     ensures { λ w. ⌜ w ≡ max u v ⌝ }
 {
@@ -31,6 +33,7 @@ pub fn imp(u: u8, v: u8) -> u8
     v
 }
 
+// The value of "not u".
 pub fn negation(u: u8) -> u8
     ensures { λ w. ⌜ w ≡ negation u ⌝ }
 {
