@@ -10,7 +10,7 @@ use lib.Dec.{ltb}
 use lib.ListN.{length, getD}
 use Rattle.meaning.specs.Run.{each}
 use Rattle.meaning.specs.Three.{greatest}
-use Rattle.meaning.specs.Refusal.{Ground, ground, firstOf, grounds9}
+use Rattle.meaning.specs.Refusal.{ofFirst, Ground, ground, firstOf, grounds9}
 use Rattle.meaning.proofs.Bounds.{le-or-lt, greatest-member}
 use Rattle.meaning.proofs.First.{Clear, each-clear, clear-none, scan-found, found-stop}
 
@@ -25,7 +25,7 @@ module _ (f : ℕ → ℕ) where
   clear-low n h = each-clear over n (λ i l. (le-ltb 2 (f i) (le-trans (greatest-member n f i l) h), tt))
 
   nine-high : (n : ℕ) → 2 < greatest n f → 9 ≡ firstOf (each n over)
-  unfolding greatest each firstOf
+  unfolding greatest each ofFirst
   nine-high zero h = absurd (omega arith)
   nine-high (suc n) h =
       ⊎-elim

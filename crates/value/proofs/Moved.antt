@@ -6,7 +6,7 @@ use mathlib.Core.Bool.{false}
 use mathlib.Core.List.{List}
 use native.Mathlib.Nat.{le-refl, le-trans}
 use native.Mathlib.Omega.{arith}
-use Rattle.meaning.specs.Record.{Way, count, kindByte, fieldA, fieldB}
+use Rattle.meaning.specs.Record.{core, Way, count, kindByte, fieldA, fieldB}
 use Rattle.meaning.specs.Value.{Square, testSquare, sequenceSquare}
 use Rattle.meaning.specs.WellFormed.{WellFormed}
 use Rattle.meaning.proofs.Bounds.{le-above}
@@ -22,7 +22,7 @@ use Rattle.value.proofs.Children.{ask-first, ask-second}
 
 -- ---- records
 -- The parts of a sequence are earlier records.
-module _ {s : List ℕ} {A q : ℕ} (w : WellFormed false s A) (l : q < count s) (nine : kindByte s q ≡ 9) where
+module _ {s : List ℕ} {A q : ℕ} (w : WellFormed core s A) (l : q < count s) (nine : kindByte s q ≡ 9) where
   pub first-earlier : {a : ℕ} → a ≡ fieldA s q → a < q
   first-earlier f = rw f ((rw (← path-first (kindByte s q) (omega arith) (omega arith)) at (w .first q l)) .0)
 

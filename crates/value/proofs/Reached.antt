@@ -2,11 +2,10 @@
 -- later; going from parent to parent one comes to the last record, and the way back goes down the tree.
 use Prim.Native.Nat.{ℕ, zero, suc, pred, _+_, _<_, _≤_}
 use mathlib.Core.Path.{_≡_}
-use mathlib.Core.Bool.{Bool}
 use mathlib.Core.List.{List}
 use mathlib.Core.Logic.{_⊎_, inl, inr}
 use native.Mathlib.Omega.{arith}
-use Rattle.meaning.specs.Record.{count, parent}
+use Rattle.meaning.specs.Record.{Language, count, parent}
 use Rattle.meaning.specs.WellFormed.{WellFormed}
 use Rattle.meaning.proofs.Bounds.{le-or-lt}
 use Rattle.meaning.proofs.Parents.{InFirst, InSecond, used-in, has-parent, child-earlier}
@@ -22,7 +21,7 @@ named-under : (s : List ℕ) (q p : ℕ) → InFirst s q p ⊎ InSecond s q p �
 named-under s q p (inl (σ, e, f)) = first {q = q} σ e (rw f itself)
 named-under s q p (inr (σ, e, f)) = second {q = q} σ e (rw f itself)
 
-module _ {full : Bool} {s : List ℕ} {A : ℕ} (w : WellFormed full s A) where
+module _ {ℓ : Language} {s : List ℕ} {A : ℕ} (w : WellFormed ℓ s A) where
   -- In so many steps from parent to parent.
   climb : (m q : ℕ) → q < count s → count s ≤ q + m → Under s (pred (count s)) q
   climb zero q l h = absurd (omega arith)

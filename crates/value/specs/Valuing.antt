@@ -14,7 +14,7 @@ use mathlib.Core.Bool.{false}
 use mathlib.Core.List.{List}
 use lib.ListN.{length, getD}
 use Rattle.meaning.specs.Run.{cellOf}
-use Rattle.meaning.specs.Record.{count, kindAt, kindByte, fieldA, fieldB, Sort, formula, path, sortOf, child, useA, useB}
+use Rattle.meaning.specs.Record.{core, count, kindAt, kindByte, fieldA, fieldB, Sort, formula, path, sortOf, child, useA, useB}
 use Rattle.meaning.specs.Tree.{formAt, pathAt}
 use Rattle.meaning.specs.Value.{valueOf, squareOf}
 use Rattle.meaning.specs.WellFormed.{WellFormed, Trace}
@@ -30,7 +30,7 @@ module _ (s : List ℕ) (A L : ℕ) (cells : List ℕ) where
     pub values : (k : ℕ) → k < L → rowAt t (q * L) k ≡ valueOf L (cellOf A cells) (formAt s q) k
 
   pub record Legal (room : ℕ) : Type 0 where
-    pub formed : WellFormed false s A
+    pub formed : WellFormed core s A
     pub trace : Trace A L cells
     pub enough : count s * L ≤ room
 

@@ -3,7 +3,7 @@ ghost use mathlib.Core.Path.{_≡_};
 ghost use mathlib.Core.Bool.{_&&_, false};
 ghost use Prim.Native.Nat.{ℕ, _<_, _≤_};
 ghost use lib.Dec.{eqb};
-ghost use Rattle.meaning.specs.Record.{count, formula, path, sortOf, kindAt, kindByte};
+ghost use Rattle.meaning.specs.Record.{core, count, formula, path, sortOf, kindAt, kindByte};
 ghost use Rattle.meaning.specs.Value.{starSquare};
 ghost use Rattle.meaning.specs.WellFormed.{WellFormed};
 ghost use Rattle.rows.specs.Cells.{at, Holds};
@@ -107,7 +107,7 @@ fn close(records: &[u8], p: usize, s: &mut Square, l: usize)
 
 // The kind of the one move of path p, a step or a back step, if tests before and after it are all else that p has.
 fn one_way(records: &[u8], p: usize) -> u8
-    requires { ⌜ ((A : ℕ) × WellFormed false (now records) A) × (p < count (now records)) ⌝ }
+    requires { ⌜ ((A : ℕ) × WellFormed core (now records) A) × (p < count (now records)) ⌝ }
     ensures { λ n. ⌜ (5 ≤ n → Moves (now (records .entry)) n p) ⌝ }
 {
     let mut q = p;

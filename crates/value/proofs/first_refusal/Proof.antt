@@ -5,6 +5,7 @@ use mathlib.Core.Bool.{false}
 use native.Mathlib.Omega.{arith}
 use borrow.Author.Needs.{needs}
 use Rattle.meaning.specs.Refusal.{ground1, ground8-cells, mostAtoms, firstOf, treeGrounds, grounds9}
+use Rattle.meaning.specs.Record.{core}
 use Rattle.meaning.proofs.Accepted.{ground1-fails}
 use Rattle.trace.proofs.Fitting.{size-fits}
 use Rattle.value.proofs.Grounds.{not-refused}
@@ -26,7 +27,7 @@ fits c = sym (c .before .wrong-size .ensures) ∙ c .if2 .left
 
 tree : (c : tie.Else3)
     → let a = start (c .before .before .before .before) .args in
-    firstOf (treeGrounds false (a .records .now) (a .atoms)) ≡ 0
+    firstOf (treeGrounds core (a .records .now) (a .atoms)) ≡ 0
 tree c = sym (c .before .tree-refusal .ensures) ∙ c .if3 .left
 
 low : (c : tie.Else4)
