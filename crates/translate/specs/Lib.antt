@@ -1,2 +1,1 @@
-pub mod Contexts
-pub mod Rows
+pub mod Appended

@@ -1,23 +1,22 @@
-// Translating a formula into rules.
-mod context;
-mod row;
-
+// Translating a formula into rules: the first refusal, and the work that is done once it is 0.
 ghost use mathlib.Core.Path.{_≡_};
 ghost use Prim.Native.Nat.{_*_, _+_, _<_, _≤_};
-ghost use mathlib.Core.List.{[], _∷_};
 ghost use lib.ListN.{length};
 ghost use Rattle.meaning.specs.Run.{written};
-ghost use Rattle.meaning.specs.Record.{count};
+ghost use Rattle.meaning.specs.Record.{count, kindAt};
 ghost use Rattle.meaning.specs.Rule.{words, ruleSize};
-ghost use Rattle.meaning.specs.Translation.{rulesAt, translation, ruleSum};
-ghost use Rattle.meaning.specs.Refusal.{firstOf, starredGrounds};
+ghost use Rattle.meaning.specs.Translation.{context, rulesAt, translation, ruleNumber, ruleSum};
+ghost use Rattle.meaning.specs.Refusal.{firstOf, starredGrounds, translateGrounds};
 ghost use Rattle.meaning.specs.Service.{translateAnswer, translateAfter};
 ghost use Rattle.paths.specs.Asking.{Formed, Ready};
-ghost use Rattle.translate.specs.Contexts.{AllHanded, Moded};
-ghost use Rattle.translate.specs.Rows.{Rowed, Small, Put, rulesIn, ruleOf};
+ghost use Rattle.contexts.specs.Contexts.{contextsOf};
+ghost use Rattle.rows.specs.Rows.{rowsOf};
+ghost use Rattle.translate.specs.Appended.{Appended, rowWords, wordsIn};
+use contexts::Contexts;
 use records::layout;
-use row::Row;
-use row::Rows;
+use rows::Labels;
+use rows::Row;
+use rows::Rows;
 use rules::RULE_SIZE;
 
 // The refusal, or 0 and the number of rules.
@@ -33,29 +32,53 @@ pub fn translate(records: &[u8], atoms: u64, out: &mut [u16]) -> Counted
     ensures count { λ v. ⌜ v .count ≡ translateAnswer (now (records .entry)) atoms (length (now (out .entry))) .count ⌝ }
     ensures words { λ v. ⌜ now (out .exit) ≡ translateAfter (now (records .entry)) atoms (now (out .entry)) ⌝ }
 {
-    let refusal = first_refusal(records, atoms);
+    let asked = first_refusal(records, atoms, out.len());
+    let refusal = asked.refusal;
     if refusal != refusals::ACCEPTED {
         return Counted { refusal, count: 0 };
     }
-    let mut modes = [0u8; layout::MOST_RECORDS];
-    let mut conts = [0u8; layout::MOST_RECORDS];
-    context::find_contexts(records, &mut modes, &mut conts);
-    let n = rule_count(records, &modes);
-    if out.len() < RULE_SIZE * n {
-        return Counted {
-            refusal: refusals::NO_ROOM,
-            count: 0,
-        };
-    }
-    write_rules(records, atoms as usize, &modes, &conts, out);
+    let contexts = asked.contexts;
+    let count = write_rules(records, atoms as usize, &contexts, out);
     Counted {
         refusal: refusals::ACCEPTED,
-        count: n as u64,
+        count: count as u64,
     }
 }
 
-// Conditions in the specification's order, up to the stars: those of check, then 12 and 11 of each star.
-fn first_refusal(records: &[u8], atoms: u64) -> u8
+// ---- the refusal
+// The first refusal, and, if that is 0, the contexts that were found on the way.
+struct Asked {
+    refusal: u8,
+    contexts: Contexts,
+}
+
+// Conditions in the specification's order: those of the formula, and then the room, in words.
+fn first_refusal(records: &[u8], atoms: u64, room: usize) -> Asked
+    ensures refusal { λ v. ⌜ v .refusal ≡ firstOf (translateGrounds (now (records .entry)) atoms room) ⌝ }
+    ensures contexts { λ v. ⌜ (v .refusal ≡ 0 → v .contexts ≡ contextsOf (now (records .entry))) ⌝ }
+{
+    let refusal = formula_refusal(records, atoms);
+    if refusal != refusals::ACCEPTED {
+        return Asked {
+            refusal,
+            contexts: [0u16; layout::MOST_RECORDS],
+        };
+    }
+    let contexts = contexts::find_contexts(records);
+    if room < RULE_SIZE * rule_count(records, &contexts) {
+        return Asked {
+            refusal: refusals::NO_ROOM,
+            contexts,
+        };
+    }
+    Asked {
+        refusal: refusals::ACCEPTED,
+        contexts,
+    }
+}
+
+// Those of check, then 12 and 11 of each star.
+fn formula_refusal(records: &[u8], atoms: u64) -> u8
     ensures { λ x. ⌜ x ≡ firstOf (starredGrounds (now (records .entry)) atoms) ⌝ }
 {
     let x = checks::check(records, atoms);
@@ -66,41 +89,45 @@ fn first_refusal(records: &[u8], atoms: u64) -> u8
 }
 
 // How many rules the translation has.
-fn rule_count(records: &[u8], modes: &[u8; layout::MOST_RECORDS]) -> usize
-    requires { ⌜ Formed (now records) × Moded (now records) (now modes) ⌝ }
+fn rule_count(records: &[u8], contexts: &Contexts) -> usize
+    requires { ⌜ Formed (now records) × (now contexts ≡ contextsOf (now records)) ⌝ }
     ensures { λ n. ⌜ n ≡ ruleSum (now (records .entry)) (count (now (records .entry))) + 1 ⌝ }
 {
     let n = layout::record_count(records);
     let mut rules: usize = 1;
     let mut r: usize = 0;
     while r < n {
-        rules += row::row_count(layout::kind_at(records, r), modes[r]);
+        rules += count_at(records, contexts, r);
         r += 1;
     }
     rules
 }
 
-// Writes the rules of each record in turn, and at last the one that asserts the whole formula.
-fn write_rules(
-    records: &[u8],
-    atoms: usize,
-    modes: &[u8; layout::MOST_RECORDS],
-    conts: &[u8; layout::MOST_RECORDS],
-    out: &mut [u16],
-)
-    requires { ⌜ Ready (now records) atoms × AllHanded (now records) (now modes) (now conts) × (ruleSize * length (translation (now records) atoms) ≤ length (now out)) ⌝ }
-    ensures { λ _. ⌜ now (out .exit) ≡ written (words (translation (now (records .entry)) atoms)) (now (out .entry)) ⌝ }
+// How many rules record r has.
+fn count_at(records: &[u8], contexts: &Contexts, r: usize) -> usize
+    requires { ⌜ Formed (now records) × (now contexts ≡ contextsOf (now records)) × (r < count (now records)) ⌝ }
+    ensures { λ n. ⌜ n ≡ ruleNumber (kindAt (now (records .entry)) r) (context (now (records .entry)) r .mode) ⌝ }
+{
+    rows::row_count(layout::kind_at(records, r), contexts::mode(contexts[r]))
+}
+
+// ---- the work
+// Writes the rules of each record in turn, and at last the one that asserts the whole formula, and gives their number.
+fn write_rules(records: &[u8], atoms: usize, contexts: &Contexts, out: &mut [u16]) -> usize
+    requires { ⌜ Ready (now records) atoms × (now contexts ≡ contextsOf (now records)) × (ruleSize * length (translation (now records) atoms) ≤ length (now out)) ⌝ }
+    ensures count { λ n. ⌜ n ≡ length (translation (now (records .entry)) atoms) ⌝ }
+    ensures words { λ _. ⌜ now (out .exit) ≡ written (words (translation (now (records .entry)) atoms)) (now (out .entry)) ⌝ }
 {
     let n = layout::record_count(records);
     let mut at: usize = 0;
     let mut r: usize = 0;
     while r < n {
-        let rows = record_rows(records, atoms, modes, conts, r);
-        let count = row::row_count(layout::kind_at(records, r), modes[r]);
+        let rows = record_rows(records, atoms, contexts, r);
+        let count = count_at(records, contexts, r);
         at = put_rows(out, at, rows, count);
         r += 1;
     }
-    put_rows(out, at, row::assert_row(label(atoms, n - 1)), 1);
+    put_rows(out, at, rows::assert_row(label(atoms, n - 1)), 1) / RULE_SIZE
 }
 
 // The symbol of record r's label.
@@ -108,46 +135,31 @@ fn label(atoms: usize, r: usize) -> u16
     requires { ⌜ (atoms ≤ 32) × (r < 256) ⌝ }
     ensures { λ x. ⌜ x ≡ 2 + atoms + r ⌝ }
 {
-    ((2 + atoms + r) % 65536) as u16
-}
-
-// The symbol of the continuation c's label.
-fn cont_label(atoms: usize, c: u8) -> u16
-    requires { ⌜ atoms ≤ 32 ⌝ }
-    ensures { λ x. ⌜ (x ≡ 2 + atoms + c) × Small x ⌝ }
-{
-    label(atoms, c as usize)
+    (2 + atoms + r) as u16
 }
 
 // The rules of record r.
-fn record_rows(
-    records: &[u8],
-    atoms: usize,
-    modes: &[u8; layout::MOST_RECORDS],
-    conts: &[u8; layout::MOST_RECORDS],
-    r: usize,
-) -> Rows
-    requires { ⌜ Ready (now records) atoms × AllHanded (now records) (now modes) (now conts) × (r < count (now records)) ⌝ }
-    ensures { λ w. ⌜ Rowed w (rulesAt (now (records .entry)) atoms r) ⌝ }
+fn record_rows(records: &[u8], atoms: usize, contexts: &Contexts, r: usize) -> Rows
+    requires { ⌜ Ready (now records) atoms × (now contexts ≡ contextsOf (now records)) × (r < count (now records)) ⌝ }
+    ensures { λ w. ⌜ w ≡ rowsOf (rulesAt (now (records .entry)) atoms r) ⌝ }
 {
     let kind = layout::kind_at(records, r);
     let a = layout::field_a(records, r);
     let b = layout::field_b(records, r);
-    row::rows_of(
-        kind,
-        modes[r],
-        label(atoms, r),
-        label(atoms, a),
-        label(atoms, b),
-        cont_label(atoms, conts[r]),
-        (a % 256) as u16,
-    )
+    let context = contexts[r];
+    let labels = Labels {
+        x: label(atoms, r),
+        a: label(atoms, a),
+        b: label(atoms, b),
+        c: label(atoms, contexts::continuation(context)),
+    };
+    rows::rows_of(kind, contexts::mode(context), labels, a as u16)
 }
 
-// Writes the first rows, so many, to the output at a place, and gives the place after them.
+// Writes the first rows, as many as count says, to the output at a place, and gives the place after them.
 fn put_rows(out: &mut [u16], at: usize, rows: Rows, count: usize) -> usize
-    requires { ⌜ (count ≤ 4) × (count ≤ length rows) × (at + ruleSize * count ≤ length (now out)) ⌝ }
-    ensures { λ e. ⌜ Put (now (out .entry)) at (rulesIn rows count) e (now (out .exit)) ⌝ }
+    requires { ⌜ (count ≤ 4) × (at + ruleSize * count ≤ length (now out)) ⌝ }
+    ensures { λ e. ⌜ Appended (now (out .entry)) at (wordsIn rows count) e (now (out .exit)) ⌝ }
 {
     let mut end = at;
     let mut i: usize = 0;
@@ -161,7 +173,7 @@ fn put_rows(out: &mut [u16], at: usize, rows: Rows, count: usize) -> usize
 // Writes a row to the output at a place, and gives the place after it.
 fn put_row(out: &mut [u16], at: usize, row: Row) -> usize
     requires { ⌜ at + ruleSize ≤ length (now out) ⌝ }
-    ensures { λ e. ⌜ Put (now (out .entry)) at (ruleOf row ∷ []) e (now (out .exit)) ⌝ }
+    ensures { λ e. ⌜ Appended (now (out .entry)) at (rowWords row) e (now (out .exit)) ⌝ }
 {
     out[at] = row[0];
     out[at + 1] = row[1];

@@ -4,30 +4,10 @@ use mathlib.Core.Path.{_≡_, refl}
 use native.Mathlib.Omega.{arith}
 use lib.ListN.{length-set}
 use borrow.Author.Needs.{needs}
-use Rattle.meaning.specs.Rule.{words}
 use Rattle.translate.proofs.put_row.Statement.{statement}
 use Rattle.translate.proofs.put_row.Tie as tie
 
-slice-write-out-2 : tie.Need-slice-write-out-2
-slice-write-out-2 c = simp length-set (omega arith)
-
-slice-write-out-3 : tie.Need-slice-write-out-3
-slice-write-out-3 c = simp length-set (omega arith)
-
-slice-write-out-4 : tie.Need-slice-write-out-4
-slice-write-out-4 c = simp length-set (omega arith)
-
-slice-write-out-5 : tie.Need-slice-write-out-5
-slice-write-out-5 c = simp length-set (omega arith)
-
-slice-write-out-6 : tie.Need-slice-write-out-6
-slice-write-out-6 c = simp length-set (omega arith)
-
-same-length : tie.Need-same-length
-same-length c = simp length-set refl
-
 returns : tie.Need-returns
-unfolding words
 returns c =
     let at = c .args .at in
     let one : at + 1 ≡ suc at = omega arith in
@@ -47,23 +27,23 @@ put-row-spec =
     (λ c. search needs)
     (λ c. search needs)
     (λ c. search needs)
-    slice-write-out-2
+    (λ c. simp length-set (omega arith))
     (λ c. search needs)
     (λ c. search needs)
     (λ c. search needs)
-    slice-write-out-3
+    (λ c. simp length-set (omega arith))
     (λ c. search needs)
     (λ c. search needs)
     (λ c. search needs)
-    slice-write-out-4
+    (λ c. simp length-set (omega arith))
     (λ c. search needs)
     (λ c. search needs)
     (λ c. search needs)
-    slice-write-out-5
+    (λ c. simp length-set (omega arith))
     (λ c. search needs)
     (λ c. search needs)
     (λ c. search needs)
-    slice-write-out-6
+    (λ c. simp length-set (omega arith))
     (λ c. search needs)
-    same-length
+    (λ c. simp length-set refl)
     returns)

@@ -1,9 +1,9 @@
 -- `record_rows` meets its contract: the labels are small, and the rules asked for are those of the record.
-use Prim.Native.Nat.{_%_, _≤_, _<_}
-use mathlib.Core.Path.{_≡_}
+use Prim.Native.Nat.{_≤_, _<_}
 use native.Mathlib.Omega.{arith}
 use borrow.Author.Needs.{needs}
-use Rattle.translate.proofs.Rowing.{core-kind, first-small, second-small, record-rules}
+use Rattle.paths.proofs.Moving.{core-kind, first-small, second-small}
+use Rattle.translate.proofs.Rowing.{record-rules}
 use Rattle.translate.proofs.record_rows.Statement.{statement}
 use Rattle.translate.proofs.record_rows.Tie as tie
 
@@ -18,47 +18,44 @@ small c =
     let (w, _, l) = start c .pre in (
       w .atoms,
       omega (arith, w .few),
-      rw (c .before .before .kind-at .ensures) (core-kind w _ l),
-      rw (c .before .field-a .ensures) (first-small w _ l),
-      rw (c .field-b .ensures) (second-small w _ l),
+      rw (c .before .before .kind-at .ensures) (core-kind w l),
+      rw (c .before .field-a .ensures) (first-small w l),
+      rw (c .field-b .ensures) (second-small w l),
     )
 
 -- ---- the calls and the result
-label-requires-2 : tie.Need-label-requires-2
-label-requires-2 c κs = let h = small (c .before .before) in (h .0, omega arith)
-
-label-requires-3 : tie.Need-label-requires-3
-label-requires-3 c κs = let h = small (c .before .before .before) in (h .0, omega arith)
-
 rows-of-requires : tie.Need-rows-of-requires
 rows-of-requires c κs =
-    let two = c .before .before .before in
+    let four = c .before in
+    let three = four .before .before in
+    let two = three .before in
     let h = small (two .before .before .before) in (
       h .2,
       omega (arith, two .before .label .ensures),
       omega (arith, two .label2 .ensures),
-      c .cont-label .ensures .1,
+      omega (arith, four .label4 .ensures, four .before .continuation .ensures),
       omega arith,
     )
 
 returns : tie.Need-returns
 returns c =
-    let l = c .before in
-    let two = l .before .before .before in
-    let read = two .before .before .before in
-    let (w, h, i) = start read .pre in
-    let (_, _, _, a, _) = small read in
-    let same : read .before .field-a .result % 256 ≡ read .before .field-a .result = omega arith in
+    let mode = c .before in
+    let four = mode .before in
+    let three = four .before .before in
+    let two = three .before in
+    let b = two .before .before .before in
+    let (w, e, l) = start b .pre in
     rw (
-      same,
-      l .cont-label .ensures .0,
-      l .before .before .label3 .ensures,
+      mode .mode .ensures,
+      four .label4 .ensures,
+      four .before .continuation .ensures,
+      three .label3 .ensures,
       two .label2 .ensures,
       two .before .label .ensures,
-      read .field-b .ensures,
-      read .before .field-a .ensures,
-      read .before .before .kind-at .ensures,
-      record-rules (start read .args .atoms) h i,
+      b .field-b .ensures,
+      b .before .field-a .ensures,
+      b .before .before .kind-at .ensures,
+      record-rules w l e,
     ) at (c .rows-of .ensures)
 
 pub record-rows-spec : {M : Type 1} → statement M
@@ -69,11 +66,13 @@ record-rows-spec =
     (λ c κs. search needs)
     (λ c κs. search needs)
     (λ c. search needs)
-    (λ c κs. search needs)
-    label-requires-2
-    label-requires-3
     (λ c. search needs)
     (λ c κs. search needs)
-    (λ c. search needs)
+    (λ c κs. let h = small (c .before .before) in (h .0, omega arith))
+    (λ c κs. let h = small (c .before .before .before) in (h .0, omega arith))
+    (λ c κs. search needs)
+    (λ c κs. search needs)
+    (λ c κs. search needs)
+    (λ c. omega (arith, small (c .before .before .before .before .before .before .before)))
     rows-of-requires
     returns)

@@ -1,26 +1,26 @@
 -- `write_rules` meets its contract: after r records their rules stand at the front, and the last rule follows them.
 use Prim.Native.Nat.{_-_, _<_, _≤_}
-use mathlib.Core.Path.{_≡_}
+use mathlib.Core.Path.{_≡_, refl, sym, _∙_}
+use mathlib.Core.List.{[], _∷_}
 use native.Mathlib.Omega.{arith}
 use borrow.Author.Needs.{needs}
+use lib.ListN.{length}
 use Rattle.meaning.specs.Run.{each}
 use Rattle.meaning.specs.Record.{count}
+use Rattle.meaning.specs.Rule.{rule, words}
 use Rattle.meaning.specs.Translation.{rulesAt}
 use Rattle.meaning.proofs.RuleCount.{record-few}
-use Rattle.meaning.proofs.Runs.{each-more}
-use lib.ListN.{length}
-use Rattle.translate.specs.Rows.{Put}
-use Rattle.translate.proofs.Rowing.{core-kind, record-counted-rows, handed-moded}
-use Rattle.translate.proofs.Appending.{put-none, put-length, rowed-long, rowed-room, rowed-more}
-use Rattle.translate.proofs.Appending.{room-more, room-last, put-all}
+use Rattle.translate.specs.Appended.{Appended}
+use Rattle.translate.proofs.Appending.{append-none, append-length, append-more, append-next}
+use Rattle.translate.proofs.Rowing.{wordsAt, record-counted, rules-appended, room-next, room-last, all-written}
 use Rattle.translate.proofs.write_rules.Statement.{statement}
 use Rattle.translate.proofs.write_rules.Tie as tie
 
 abbrev Inv-loop : tie.InvT-loop
-Inv-loop records atoms modes conts out₀ n at₀ r₀ out at r = (r ≤ n) × Put out₀ 0 (each r (rulesAt records atoms)) at out
+Inv-loop s A contexts out₀ n at₀ r₀ out at r = (r ≤ n) × Appended out₀ 0 (each r (wordsAt s A)) at out
 
 abbrev μ-loop : tie.MeasureT-loop
-μ-loop records atoms modes conts out₀ n at₀ r₀ out at r = n - r
+μ-loop s A contexts out₀ n at₀ r₀ out at r = n - r
 
 -- ---- places: in the loop, and after it
 abbrev start : tie.At-loop Inv-loop μ-loop → tie.Start Inv-loop μ-loop
@@ -31,87 +31,66 @@ before-end c = omega (arith, c .before .before .record-count .ensures)
 
 all : (c : tie.After-loop Inv-loop μ-loop)
     → let a = start (c .before) .args in
-    Put (a .out .now) 0 (each (count (a .records .now)) (rulesAt (a .records .now) (a .atoms))) (c .before .loop .at)
+    Appended (a .out .now) 0 (each (count (a .records .now)) (wordsAt (a .records .now) (a .atoms))) (c .before .loop .at)
     (c .before .loop .out)
 all c =
     let e : c .before .loop .r ≡ count (start (c .before) .args .records .now) =
     omega (arith, c .before .before .record-count .ensures) in
     rw e at (c .before .loop .inv .1)
 
+-- The rows that are rules.
+counted : (c : tie.After-count-at Inv-loop μ-loop)
+    → let in-loop = c .before .before in
+    let a = start (in-loop .before) .args in
+    c .count-at .result ≡ length (rulesAt (a .records .now) (a .atoms) (in-loop .before .loop .r))
+counted c = c .count-at .ensures ∙ sym (record-counted _ _ _)
+
 -- ---- the loop
-loop-holds : tie.Need-loop-holds Inv-loop μ-loop
-unfolding each
-loop-holds c = (omega arith, put-none _ _)
-
-kind-at-requires : tie.Need-kind-at-requires Inv-loop μ-loop
-kind-at-requires c κs = before-end (c .before)
-
-row-count-requires : tie.Need-row-count-requires Inv-loop μ-loop
-row-count-requires c κs =
-    let in-loop = c .before .before .before in
-    rw (c .before .kind-at .ensures) (core-kind (start (in-loop .before) .pre .0) _ (before-end in-loop))
-
--- ---- the rows that are rules
-abbrev rows-at : tie.After-row-count Inv-loop μ-loop → tie.After-record-rows Inv-loop μ-loop
-rows-at c = c .before .before .before
-
-counted : (c : tie.After-row-count Inv-loop μ-loop)
-    → let in-loop = rows-at c .before in
-    let a = start (in-loop .before) .args in
-    c .row-count .result ≡ length (rulesAt (a .records .now) (a .atoms) (in-loop .before .loop .r))
-counted c =
-    let in-loop = rows-at c .before in
-    let a = start (in-loop .before) .args in
-    record-counted-rows (a .atoms) (handed-moded (start (in-loop .before) .pre .1)) (before-end in-loop)
-    (rw (c .before .before .kind-at .ensures) at (c .row-count .ensures))
-
 put-rows-requires : tie.Need-put-rows-requires Inv-loop μ-loop
 put-rows-requires c κs =
-    let rec = rows-at (c .before) in
-    let in-loop = rec .before in
-    let a = start (in-loop .before) .args in
-    let r = in-loop .before .loop .r in
-    let w = rec .record-rows .ensures in
-    let n = counted (c .before) in
-    rw n (
-      record-few (a .records .now) (a .atoms) r,
-      rowed-long w,
-      rowed-room w (in-loop .before .loop .inv .1)
-          (room-more (a .records .now) (a .atoms) (start (in-loop .before) .pre .2) r (before-end in-loop)),
+    let count = c .before in
+    let in-loop = count .before .before in
+    let at = in-loop .before in
+    let a = start at .args in
+    let s = a .records .now in
+    rw (counted count) (
+      record-few s (a .atoms) (at .loop .r),
+      room-next s (a .atoms) (start at .pre .2) (at .loop .r) (before-end in-loop) (at .loop .inv .1),
     )
 
 loop-again : tie.Need-loop-again Inv-loop μ-loop
 loop-again c =
     let put = c .before .before in
-    let rows = rows-at (put .before .before) in
-    let more = rowed-more (rows .record-rows .ensures) (rows .before .before .loop .inv .1) (rw (counted (put .before .before)) at (put .put-rows .ensures)) in
-    (omega arith, rw each-more more)
+    let count = put .before .before in
+    let rows = count .before in
+    let at = rows .before .before in
+    let a = start at .args in
+    let few = record-few (a .records .now) (a .atoms) (at .loop .r) in (
+      omega arith,
+      append-next _ _ (at .loop .inv .1)
+          (rules-appended _ (rows .record-rows .ensures) (counted count) few (put .put-rows .ensures)),
+    )
 
 -- ---- the last rule
 put-rows-requires-2 : tie.Need-put-rows-requires-2 Inv-loop μ-loop
 put-rows-requires-2 c κs =
     let done = c .before .before .before in
     let s = start (done .before) in
-    let w = c .assert-row .ensures in (
-      omega arith,
-      rowed-long w,
-      rowed-room w (all done) (room-last (s .args .records .now) (s .args .atoms) (s .pre .2) _),
-    )
+    (omega arith, omega (arith, room-last (s .args .records .now) (s .args .atoms) (s .pre .2) (all done)))
 
-same-length : tie.Need-same-length Inv-loop μ-loop
-same-length c =
-    let put = c .before .before in
-    let done = put .before .before .before .before in
-    put-length (rowed-more (put .before .assert-row .ensures) (all done) (put .put-rows2 .ensures))
+-- The last rule's words.
+last : (c : tie.After-put-rows2 Inv-loop μ-loop)
+    → let loop = c .before .before .before .before .before .loop in
+    Appended (loop .out) (loop .at) (words (rule 1 [] (c .before .before .label .result ∷ []) ∷ [])) (c .put-rows2 .result) (c .put-rows2 .last .0)
+last c = rules-appended _ (c .before .assert-row .ensures) refl (omega arith) (c .put-rows2 .ensures)
 
 returns : tie.Need-returns Inv-loop μ-loop
 returns c =
     let put = c .before .before in
     let label = put .before .before in
     let done = label .before .before in
-    put-all _ _ (start (done .before) .pre .2)
-    (omega (arith, label .label .ensures, done .before .before .record-count .ensures))
-    (rowed-more (put .before .assert-row .ensures) (all done) (put .put-rows2 .ensures))
+    all-written _ _ (start (done .before) .pre .2) (all done)
+    (omega (arith, label .label .ensures, done .before .before .record-count .ensures)) (last put)
 
 pub write-rules-spec : {M : Type 1} → statement M
 write-rules-spec =
@@ -120,11 +99,9 @@ write-rules-spec =
     Inv-loop
     μ-loop
     (λ c κs. search needs)
-    loop-holds
+    (λ c. (omega arith, append-none _ _ _))
     (λ c κs. search needs)
-    kind-at-requires
-    (λ c. search needs)
-    row-count-requires
+    (λ c κs. (record { atoms = _; formed = start (c .before .before) .pre .0 }, start (c .before .before) .pre .1, before-end (c .before)))
     put-rows-requires
     (λ c. search needs)
     (λ c. search needs)
@@ -133,5 +110,5 @@ write-rules-spec =
     (λ c κs. search needs)
     (λ c κs. search needs)
     put-rows-requires-2
-    same-length
+    (λ c. let put = c .before .before in append-length (append-more (all (put .before .before .before .before)) (last put)))
     returns)
