@@ -14,18 +14,17 @@ const MODE: u16 = 256;
 // The context of each path; 0 for each formula.
 pub type Contexts = [u16; layout::MOST_RECORDS];
 
-// The contexts of all paths.
-pub fn find_contexts(records: &[u8]) -> Contexts
+// Finds the contexts of all paths.
+pub fn find_contexts(records: &[u8], contexts: &mut Contexts)
     requires { ⌜ Formed (now records) ⌝ }
-    ensures { λ x. ⌜ x ≡ contextsOf (now (records .entry)) ⌝ }
+    ensures { λ _. ⌜ now (contexts .exit) ≡ contextsOf (now (records .entry)) ⌝ }
 {
-    let mut contexts = [0u16; layout::MOST_RECORDS];
+    *contexts = [0u16; layout::MOST_RECORDS];
     let mut q = layout::record_count(records);
     while 0 < q {
         q -= 1;
-        hand_down(records, q, &mut contexts);
+        hand_down(records, q, contexts);
     }
-    contexts
 }
 
 // Stores the contexts of those children of record q that are paths; `contexts` has those of the children of later records.

@@ -157,13 +157,8 @@ pub fn row_count(kind: u8, mode: u8) -> usize
 }
 
 // The rule that asserts the label x at the first instant.
-pub fn assert_row(x: u16) -> Rows
-    ensures { λ r. ⌜ r ≡ rowsOf (rule 1 [] (x ∷ []) ∷ []) ⌝ }
+pub fn assert_row(x: u16) -> Row
+    ensures { λ r. ⌜ r ≡ rowOf (rule 1 [] (x ∷ [])) ⌝ }
 {
-    [
-        [FIRST, TRUE, TRUE, x, FALSE, FALSE],
-        NO_RULE,
-        NO_RULE,
-        NO_RULE,
-    ]
+    [FIRST, TRUE, TRUE, x, FALSE, FALSE]
 }

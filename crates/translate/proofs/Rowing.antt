@@ -2,15 +2,17 @@
 -- known of the path records is enough for all.
 use Prim.Native.Nat.{ℕ, zero, suc, pred, _+_, _*_, _/_, _%_, _<_, _≤_}
 use mathlib.Core.Path.{_≡_, refl, sym, ap, _∙_}
-use mathlib.Core.Bool.{false}
+use mathlib.Core.Bool.{true, false}
 use mathlib.Core.List.{List, [], _∷_, _++_}
 use mathlib.Core.Logic.{inl, inr}
 use native.Mathlib.Nat.{le-refl}
 use native.Mathlib.Omega.{arith}
+use borrow.Author.Tests.{leb-true}
+use lib.Dec.{leb}
 use lib.ListN.{length, getD, length-append}
 use Rattle.meaning.specs.Run.{each, written}
 use Rattle.meaning.specs.Record.{Kind, constant, atom, modal, move, test, choice, sequence, star, shorthand, unknown, columnsOf}
-use Rattle.meaning.specs.Record.{Mode, diamond, box, formula, path, sortOf, mostRecords, count, kindAt, fieldA, fieldB}
+use Rattle.meaning.specs.Record.{Mode, diamond, box, formula, path, sortOf, mostRecords, count, kinds, kindOf, kindAt, fieldA, fieldB}
 use Rattle.meaning.specs.Rule.{Rule, rule, ruleSize, words}
 use Rattle.meaning.specs.Tree.{modalNumber}
 use Rattle.meaning.specs.Translation.{label, context, rulesOf, rulesAt, asserted, translation, ruleNumber}
@@ -21,6 +23,7 @@ use Rattle.meaning.proofs.Nodes.{either-sort, differs}
 use Rattle.meaning.proofs.RuleCount.{rules-counted, words-length}
 use Rattle.meaning.proofs.Runs.{each-more, getD-tabulate}
 use Rattle.records.specs.Code.{modeOf}
+use Rattle.records.proofs.Ranges.{stretch}
 use Rattle.contexts.specs.Contexts.{packed, entryBy, contextsOf}
 use Rattle.rows.specs.Rows.{rowsOf}
 use Rattle.translate.specs.Appended.{Appended, wordsIn}
@@ -45,6 +48,12 @@ mode-again : (m : Mode) → modeOf (modalNumber m) ≡ m
 unfolding modeOf modalNumber
 mode-again diamond = refl
 mode-again box = refl
+
+-- There are at least two.
+pub some-rules : (n : ℕ) (m : Mode) → n < 11 → 2 ≤ ruleNumber (kindOf n) m
+unfolding kinds ruleNumber
+some-rules n diamond h = leb-true 2 _ (sym (stretch (λ K. leb 2 (ruleNumber K diamond)) true 0 11 refl n (omega arith) h))
+some-rules n box h = leb-true 2 _ (sym (stretch (λ K. leb 2 (ruleNumber K box)) true 0 11 refl n (omega arith) h))
 
 -- ---- by the record
 pub record-counted : (s : List ℕ) (A r : ℕ) → length (rulesAt s A r) ≡ ruleNumber (kindAt s r) (context s r .mode)

@@ -32,12 +32,11 @@ pub fn translate(records: &[u8], atoms: u64, out: &mut [u16]) -> Counted
     ensures count { λ v. ⌜ v .count ≡ translateAnswer (now (records .entry)) atoms (length (now (out .entry))) .count ⌝ }
     ensures words { λ v. ⌜ now (out .exit) ≡ translateAfter (now (records .entry)) atoms (now (out .entry)) ⌝ }
 {
-    let asked = first_refusal(records, atoms, out.len());
-    let refusal = asked.refusal;
+    let mut contexts = [0u16; layout::MOST_RECORDS];
+    let refusal = first_refusal(records, atoms, out.len(), &mut contexts);
     if refusal != refusals::ACCEPTED {
         return Counted { refusal, count: 0 };
     }
-    let contexts = asked.contexts;
     let count = write_rules(records, atoms as usize, &contexts, out);
     Counted {
         refusal: refusals::ACCEPTED,
@@ -46,35 +45,20 @@ pub fn translate(records: &[u8], atoms: u64, out: &mut [u16]) -> Counted
 }
 
 // ---- the refusal
-// The first refusal, and, if that is 0, the contexts that were found on the way.
-struct Asked {
-    refusal: u8,
-    contexts: Contexts,
-}
-
-// Conditions in the specification's order: those of the formula, and then the room, in words.
-fn first_refusal(records: &[u8], atoms: u64, room: usize) -> Asked
-    ensures refusal { λ v. ⌜ v .refusal ≡ firstOf (translateGrounds (now (records .entry)) atoms room) ⌝ }
-    ensures contexts { λ v. ⌜ (v .refusal ≡ 0 → v .contexts ≡ contextsOf (now (records .entry))) ⌝ }
+// Conditions in the specification's order: those of the formula, and then the room, in words. Where none applies, the contexts are found.
+fn first_refusal(records: &[u8], atoms: u64, room: usize, contexts: &mut Contexts) -> u8
+    ensures refusal { λ x. ⌜ x ≡ firstOf (translateGrounds (now (records .entry)) atoms room) ⌝ }
+    ensures contexts { λ x. ⌜ (x ≡ 0 → now (contexts .exit) ≡ contextsOf (now (records .entry))) ⌝ }
 {
-    let refusal = formula_refusal(records, atoms);
-    if refusal != refusals::ACCEPTED {
-        return Asked {
-            refusal,
-            contexts: [0u16; layout::MOST_RECORDS],
-        };
+    let x = formula_refusal(records, atoms);
+    if x != refusals::ACCEPTED {
+        return x;
     }
-    let contexts = contexts::find_contexts(records);
-    if room < RULE_SIZE * rule_count(records, &contexts) {
-        return Asked {
-            refusal: refusals::NO_ROOM,
-            contexts,
-        };
+    contexts::find_contexts(records, contexts);
+    if room < RULE_SIZE * rule_count(records, contexts) {
+        return refusals::NO_ROOM;
     }
-    Asked {
-        refusal: refusals::ACCEPTED,
-        contexts,
-    }
+    refusals::ACCEPTED
 }
 
 // Those of check, then 12 and 11 of each star.
@@ -127,7 +111,7 @@ fn write_rules(records: &[u8], atoms: usize, contexts: &Contexts, out: &mut [u16
         at = put_rows(out, at, rows, count);
         r += 1;
     }
-    put_rows(out, at, rows::assert_row(label(atoms, n - 1)), 1) / RULE_SIZE
+    put_row(out, at, rows::assert_row(label(atoms, n - 1))) / RULE_SIZE
 }
 
 // The symbol of record r's label.
@@ -156,18 +140,21 @@ fn record_rows(records: &[u8], atoms: usize, contexts: &Contexts, r: usize) -> R
     rows::rows_of(kind, contexts::mode(context), labels, a as u16)
 }
 
-// Writes the first rows, as many as count says, to the output at a place, and gives the place after them.
+// Writes the first rows, two to four as count says, to the output at a place, and gives the place after them.
 fn put_rows(out: &mut [u16], at: usize, rows: Rows, count: usize) -> usize
-    requires { ⌜ (count ≤ 4) × (at + ruleSize * count ≤ length (now out)) ⌝ }
+    requires { ⌜ (2 ≤ count) × (count ≤ 4) × (at + ruleSize * count ≤ length (now out)) ⌝ }
     ensures { λ e. ⌜ Appended (now (out .entry)) at (wordsIn rows count) e (now (out .exit)) ⌝ }
 {
-    let mut end = at;
-    let mut i: usize = 0;
-    while i < count {
-        end = put_row(out, end, rows[i]);
-        i += 1;
+    let one = put_row(out, at, rows[0]);
+    let two = put_row(out, one, rows[1]);
+    if count == 2 {
+        return two;
     }
-    end
+    let three = put_row(out, two, rows[2]);
+    if count == 3 {
+        return three;
+    }
+    put_row(out, three, rows[3])
 }
 
 // Writes a row to the output at a place, and gives the place after it.

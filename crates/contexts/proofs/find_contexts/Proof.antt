@@ -19,13 +19,13 @@ hand-down-requires c κs =
     let at = c .before .before in
     let n = at .before in
     let e : at .loop .q - 1 + 1 ≡ at .loop .q = omega arith in
-    (n .before .before .pre, omega (arith, n .record-count .ensures), rw e (at .loop .inv .1))
+    (n .before .before .before .pre, omega (arith, n .record-count .ensures), rw e (at .loop .inv .1))
 
 returns : tie.Need-returns Inv-loop μ-loop
 returns c =
     let at = c .before in
     let e : at .loop .q ≡ 0 = omega arith in
-    handed-all (at .before .before .before .pre) (rw e at (at .loop .inv .1))
+    handed-all (at .before .before .before .before .pre) (rw e at (at .loop .inv .1))
 
 pub find-contexts-spec : {M : Type 1} → statement M
 find-contexts-spec =
@@ -34,7 +34,7 @@ find-contexts-spec =
     Inv-loop
     μ-loop
     (λ c κs. search needs)
-    (λ c. (omega arith, handed-none (c .before .before .pre) (c .record-count .ensures)))
+    (λ c. (omega arith, handed-none (c .before .before .before .pre) (c .record-count .ensures)))
     (λ c. search needs)
     hand-down-requires
     (λ c. search needs)

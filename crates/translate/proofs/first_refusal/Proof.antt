@@ -27,32 +27,32 @@ formed c = starred-formed _ _ (none c)
 
 -- The count is that of the rules.
 number : (c : tie.After-rule-count)
-    → let a = start (c .before .before .before) .args in
+    → let a = start (c .before .before .before .before) .args in
     c .rule-count .result ≡ length (translation (a .records .now) (a .atoms))
 number c = c .rule-count .ensures ∙ sym (translation-counted _ _)
 
 -- ---- the returns
 returns : tie.Need-returns
-returns c =
-    let refusal = c .before .formula-refusal .ensures in
-    (refused _ _ _ refusal (c .if1 .taken), λ z. absurd (c .if1 .taken z))
+returns c = (refused _ _ _ (c .before .formula-refusal .ensures) (c .if1 .taken), λ z. absurd (c .if1 .taken z))
 
 mul-if2 : tie.Need-mul-if2
 mul-if2 c =
-    let else = c .before .before .before in
+    let else = c .before .before .before .before in
     let s = start else .args .records .now in
     omega (arith, c .rule-count .ensures, sum-few s (count s), formed else .few)
 
 returns-2 : tie.Need-returns-2
 returns-2 c =
-    let n = c .before in
-    (refused-room _ _ _ (none (n .before .before .before)) (rw (number n) at (c .if2 .taken)), λ z. absurd (omega arith))
+    let n = c .before in (
+      refused-room _ _ _ (none (n .before .before .before .before)) (rw (number n) at (c .if2 .taken)),
+      λ z. absurd (omega arith),
+    )
 
 returns-3 : tie.Need-returns-3
 returns-3 c =
     let n = c .before in
     let found = n .before .before in
-    (not-refused _ _ _ (none (found .before)) (rw (number n) at (c .if2 .left)), λ z. found .find-contexts .ensures)
+    (not-refused _ _ _ (none (found .before .before)) (rw (number n) at (c .if2 .left)), λ z. found .find-contexts .ensures)
 
 pub first-refusal-spec : {M : Type 1} → statement M
 first-refusal-spec =
@@ -60,8 +60,8 @@ first-refusal-spec =
     (tie.spec
     (λ c κs. search needs)
     returns
-    (λ c κs. record { atoms = _; formed = formed c })
-    (λ c κs. (record { atoms = _; formed = formed (c .before .before) }, c .before .find-contexts .ensures))
+    (λ c κs. record { atoms = _; formed = formed (c .before) })
+    (λ c κs. (record { atoms = _; formed = formed (c .before .before .before) }, c .before .find-contexts .ensures))
     mul-if2
     returns-2
     returns-3)

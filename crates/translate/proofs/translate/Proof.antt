@@ -16,7 +16,7 @@ returns c =
 
 write-rules-requires : tie.Need-write-rules-requires
 write-rules-requires c κs =
-    let else = c .before .before .before in
+    let else = c .before .before in
     let asked = else .before .first-refusal .ensures in
     let (formed, fits) = accepted _ _ _ (sym (asked .0) ∙ else .if1 .left) in
     (formed, asked .1 (else .if1 .left), fits)
@@ -25,7 +25,7 @@ returns-2 : tie.Need-returns-2
 unfolding translateAnswer translateAfter
 returns-2 c =
     let wrote = c .before .before .write-rules .ensures in
-    let else = c .before .before .before .before .before .before in
+    let else = c .before .before .before .before .before in
     let e = sym (else .before .first-refusal .ensures .0) ∙ else .if1 .left in
     let n = eq-eqb _ 0 e in
     (sym e, (rw n (wrote .0), rw n (wrote .1)))

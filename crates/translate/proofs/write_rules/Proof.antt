@@ -10,9 +10,10 @@ use Rattle.meaning.specs.Record.{count}
 use Rattle.meaning.specs.Rule.{rule, words}
 use Rattle.meaning.specs.Translation.{rulesAt}
 use Rattle.meaning.proofs.RuleCount.{record-few}
+use Rattle.paths.proofs.Moving.{core-kind}
 use Rattle.translate.specs.Appended.{Appended}
 use Rattle.translate.proofs.Appending.{append-none, append-length, append-more, append-next}
-use Rattle.translate.proofs.Rowing.{wordsAt, record-counted, rules-appended, room-next, room-last, all-written}
+use Rattle.translate.proofs.Rowing.{wordsAt, some-rules, record-counted, rules-appended, room-next, room-last, all-written}
 use Rattle.translate.proofs.write_rules.Statement.{statement}
 use Rattle.translate.proofs.write_rules.Tie as tie
 
@@ -54,6 +55,7 @@ put-rows-requires c κs =
     let a = start at .args in
     let s = a .records .now in
     rw (counted count) (
+      rw (record-counted s (a .atoms) (at .loop .r)) (some-rules _ _ (core-kind (start at .pre .0) (before-end in-loop))),
       record-few s (a .atoms) (at .loop .r),
       room-next s (a .atoms) (start at .pre .2) (at .loop .r) (before-end in-loop) (at .loop .inv .1),
     )
@@ -72,17 +74,18 @@ loop-again c =
     )
 
 -- ---- the last rule
-put-rows-requires-2 : tie.Need-put-rows-requires-2 Inv-loop μ-loop
-put-rows-requires-2 c κs =
+put-row-requires : tie.Need-put-row-requires Inv-loop μ-loop
+put-row-requires c κs =
     let done = c .before .before .before in
     let s = start (done .before) in
-    (omega arith, omega (arith, room-last (s .args .records .now) (s .args .atoms) (s .pre .2) (all done)))
+    room-last (s .args .records .now) (s .args .atoms) (s .pre .2) (all done)
 
 -- The last rule's words.
-last : (c : tie.After-put-rows2 Inv-loop μ-loop)
+last : (c : tie.After-put-row Inv-loop μ-loop)
     → let loop = c .before .before .before .before .before .loop in
-    Appended (loop .out) (loop .at) (words (rule 1 [] (c .before .before .label .result ∷ []) ∷ [])) (c .put-rows2 .result) (c .put-rows2 .last .0)
-last c = rules-appended _ (c .before .assert-row .ensures) refl (omega arith) (c .put-rows2 .ensures)
+    Appended (loop .out) (loop .at) (words (rule 1 [] (c .before .before .label .result ∷ []) ∷ [])) (c .put-row .result) (c .put-row .last .0)
+unfolding words
+last c = rw (c .before .assert-row .ensures) at (c .put-row .ensures)
 
 returns : tie.Need-returns Inv-loop μ-loop
 returns c =
@@ -109,6 +112,6 @@ write-rules-spec =
     (λ c. search needs)
     (λ c κs. search needs)
     (λ c κs. search needs)
-    put-rows-requires-2
+    put-row-requires
     (λ c. let put = c .before .before in append-length (append-more (all (put .before .before .before .before)) (last put)))
     returns)
