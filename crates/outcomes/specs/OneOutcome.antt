@@ -20,6 +20,8 @@ use Rattle.records.proofs.shape as shape
 use Rattle.checks.proofs as checks
 use Rattle.checks.proofs.refusal as refusal
 use Rattle.paths.proofs.stars as stars
+use Rattle.contexts.proofs as contexts
+use Rattle.rows.proofs as rows
 use Rattle.expand.proofs as expand
 use Rattle.trace.proofs as trace
 use Rattle.squares.specs.Cells.{at}
@@ -71,6 +73,14 @@ pub record OneOutcome : Type 0 where
   pub check : OneFits checks.check.Kinds.ps checks.check.Kinds.r checks.check.Reads.Post
   -- paths
   pub stars-refusal : OneFits stars.stars_refusal.Kinds.ps stars.stars_refusal.Kinds.r stars.stars_refusal.Reads.Post
+  -- contexts
+  pub find-contexts : OneFits contexts.find_contexts.Kinds.ps contexts.find_contexts.Kinds.r contexts.find_contexts.Reads.Post
+  pub mode : OneFits contexts.mode.Kinds.ps contexts.mode.Kinds.r contexts.mode.Reads.Post
+  pub continuation : OneFits contexts.continuation.Kinds.ps contexts.continuation.Kinds.r contexts.continuation.Reads.Post
+  -- rows
+  pub rows-of : OneFits rows.rows_of.Kinds.ps rows.rows_of.Kinds.r rows.rows_of.Reads.Post
+  pub row-count : OneFits rows.row_count.Kinds.ps rows.row_count.Kinds.r rows.row_count.Reads.Post
+  pub assert-row : OneFits rows.assert_row.Kinds.ps rows.assert_row.Kinds.r rows.assert_row.Reads.Post
   -- trace
   pub wrong-size : OneFits trace.wrong_size.Kinds.ps trace.wrong_size.Kinds.r trace.wrong_size.Reads.Post
   pub cells-refusal : OneFits trace.cells_refusal.Kinds.ps trace.cells_refusal.Kinds.r trace.cells_refusal.Reads.Post

@@ -149,8 +149,11 @@ pub fn row_count(kind: u8, mode: u8) -> usize
     requires { ⌜ kind < 11 ⌝ }
     ensures { λ n. ⌜ n ≡ ruleNumber (kindOf kind) (modeOf mode) ⌝ }
 {
+    if kind < kind::STEP {
+        return 2;
+    }
     match kind {
-        kind::FALSE..=kind::BOX | kind::SEQUENCE => 2,
+        kind::SEQUENCE => 2,
         kind::TEST => { if mode == kind::DIAMOND { 3 } else { 4 } }
         _ => 3,
     }

@@ -36,6 +36,5 @@ module _ (f : ℕ → List ℕ) where
   append-next j p q = rw each-more (append-more p q)
 
 -- ---- at the start
-pub append-written : {old t new : List ℕ} {e : ℕ} → Appended old 0 t e new → length t ≤ length old
-    → (e ≡ length t) × (new ≡ written t old)
-append-written {old} {t} p h = (omega (arith, p .place), p .whole ∙ sets-written t old h)
+pub append-written : {old t new : List ℕ} {e : ℕ} → Appended old 0 t e new → e ≤ length old → (e ≡ length t) × (new ≡ written t old)
+append-written {old} {t} p h = (omega (arith, p .place), p .whole ∙ sets-written t old (omega (arith, p .place)))

@@ -160,5 +160,5 @@ module _ (s : List ℕ) (A : ℕ) where
           → (e / ruleSize ≡ length (translation s A)) × (new ≡ written (words (translation s A)) old)
       all-written x q =
           let whole = rw (← translation-words) at (append-more p (rw x at q)) in
-          let (e, n) = append-written whole (omega (arith, words-length (translation s A))) in
+          let (e, n) = append-written whole (omega (arith, whole .place, words-length (translation s A))) in
           (omega (arith, words-length (translation s A)), n)

@@ -28,18 +28,18 @@ three-rows n m l h p q = elim (le-or-lt n 6) [
   ]
 ]
 
-returns-3 : tie.Need-returns-3
-returns-3 c =
-    let ((_, p9), p7) = c .before .match .rest in
-    three-rows _ _ (c .if2 .left) (c .before .before .pre) p7 p9
+returns-5 : tie.Need-returns-5
+returns-5 c =
+    let ((_, p9), p7) = c .match .rest in
+    three-rows _ _ (c .before .if1 .left) (c .before .before .pre) p7 p9
 
 pub row-count-spec : {M : Type 1} → statement M
 unfolding kindOf kinds ruleNumber modeOf
 row-count-spec =
     tie.close
     (tie.spec
-    (λ c. rw (c .before .match .keys2, eq-eqb _ _ (c .if1 .taken)))
-    (λ c. rw (c .before .match .keys2, ne-eqb _ _ (c .if1 .left)))
-    returns-3
+    (λ c. two-rows _ _ (c .if1 .taken))
     (λ c. rw (c .match .keys1))
-    (λ c. two-rows _ _ (c .if2 .taken)))
+    (λ c. rw (c .before .match .keys2, eq-eqb _ _ (c .if2 .taken)))
+    (λ c. rw (c .before .match .keys2, ne-eqb _ _ (c .if2 .left)))
+    returns-5)
