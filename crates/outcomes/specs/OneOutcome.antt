@@ -22,6 +22,7 @@ use Rattle.checks.proofs.refusal as refusal
 use Rattle.paths.proofs.stars as stars
 use Rattle.contexts.proofs as contexts
 use Rattle.rows.proofs as rows
+use Rattle.writing.proofs as writing
 use Rattle.expand.proofs as expand
 use Rattle.trace.proofs as trace
 use Rattle.squares.specs.Cells.{at}
@@ -81,6 +82,9 @@ pub record OneOutcome : Type 0 where
   pub rows-of : OneFits rows.rows_of.Kinds.ps rows.rows_of.Kinds.r rows.rows_of.Reads.Post
   pub row-count : OneFits rows.row_count.Kinds.ps rows.row_count.Kinds.r rows.row_count.Reads.Post
   pub assert-row : OneFits rows.assert_row.Kinds.ps rows.assert_row.Kinds.r rows.assert_row.Reads.Post
+  -- writing
+  pub rule-count : OneFits writing.rule_count.Kinds.ps writing.rule_count.Kinds.r writing.rule_count.Reads.Post
+  pub write-rules : OneFits writing.write_rules.Kinds.ps writing.write_rules.Kinds.r writing.write_rules.Reads.Post
   -- trace
   pub wrong-size : OneFits trace.wrong_size.Kinds.ps trace.wrong_size.Kinds.r trace.wrong_size.Reads.Post
   pub cells-refusal : OneFits trace.cells_refusal.Kinds.ps trace.cells_refusal.Kinds.r trace.cells_refusal.Reads.Post

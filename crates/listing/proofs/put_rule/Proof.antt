@@ -6,8 +6,8 @@ use borrow.Author.Needs.{needs}
 use Rattle.meaning.specs.Run.{each}
 use Rattle.meaning.specs.Rule.{ruleSize}
 use Rattle.listing.specs.Printed.{word, line, mostSpelled}
-use Rattle.translate.specs.Appended.{Appended}
-use Rattle.translate.proofs.Appending.{append-length, append-none, append-next}
+use Rattle.writing.specs.Appended.{Appended}
+use Rattle.writing.proofs.Appending.{append-length, append-none, append-next}
 use Rattle.listing.proofs.put_rule.Statement.{statement}
 use Rattle.listing.proofs.put_rule.Tie as tie
 

@@ -5,7 +5,7 @@ use native.Mathlib.Omega.{arith}
 use lib.ListN.{length}
 use borrow.Author.Needs.{needs}
 use Rattle.meaning.specs.Refusal.{mostRules}
-use Rattle.translate.proofs.Appending.{append-length, append-more, append-written}
+use Rattle.writing.proofs.Appending.{append-length, append-more, append-written}
 use Rattle.listing.proofs.Answered.{printed-refused, few-rules, printed-rules}
 use Rattle.listing.proofs.text.Statement.{statement}
 use Rattle.listing.proofs.text.Tie as tie

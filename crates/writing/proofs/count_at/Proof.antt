@@ -1,9 +1,9 @@
 -- `count_at` meets its contract: by the record's kind and its context's mode.
 use borrow.Author.Needs.{needs}
 use Rattle.paths.proofs.Moving.{core-kind}
-use Rattle.translate.proofs.Rowing.{rules-number}
-use Rattle.translate.proofs.count_at.Statement.{statement}
-use Rattle.translate.proofs.count_at.Tie as tie
+use Rattle.writing.proofs.Rowing.{rules-number}
+use Rattle.writing.proofs.count_at.Statement.{statement}
+use Rattle.writing.proofs.count_at.Tie as tie
 
 row-count-requires : tie.Need-row-count-requires
 row-count-requires c κs =

@@ -7,8 +7,8 @@ use borrow.Author.Needs.{needs}
 use Rattle.meaning.specs.Record.{count}
 use Rattle.meaning.specs.Translation.{ruleSum}
 use Rattle.meaning.proofs.RuleCount.{sum-few}
-use Rattle.translate.proofs.rule_count.Statement.{statement}
-use Rattle.translate.proofs.rule_count.Tie as tie
+use Rattle.writing.proofs.rule_count.Statement.{statement}
+use Rattle.writing.proofs.rule_count.Tie as tie
 
 abbrev Inv-loop : tie.InvT-loop
 Inv-loop s contexts n rules₀ r₀ rules r = (r ≤ n) × (rules ≡ ruleSum s r + 1)

@@ -4,8 +4,8 @@ use mathlib.Core.Path.{_≡_, refl}
 use native.Mathlib.Omega.{arith}
 use lib.ListN.{length-set}
 use borrow.Author.Needs.{needs}
-use Rattle.translate.proofs.put_row.Statement.{statement}
-use Rattle.translate.proofs.put_row.Tie as tie
+use Rattle.writing.proofs.put_row.Statement.{statement}
+use Rattle.writing.proofs.put_row.Tie as tie
 
 returns : tie.Need-returns
 returns c =

@@ -11,11 +11,11 @@ use Rattle.meaning.specs.Rule.{rule, words}
 use Rattle.meaning.specs.Translation.{rulesAt}
 use Rattle.meaning.proofs.RuleCount.{record-few}
 use Rattle.paths.proofs.Moving.{core-kind}
-use Rattle.translate.specs.Appended.{Appended}
-use Rattle.translate.proofs.Appending.{append-none, append-length, append-more, append-next}
-use Rattle.translate.proofs.Rowing.{wordsAt, some-rules, record-counted, rules-appended, room-next, room-last, all-written}
-use Rattle.translate.proofs.write_rules.Statement.{statement}
-use Rattle.translate.proofs.write_rules.Tie as tie
+use Rattle.writing.specs.Appended.{Appended}
+use Rattle.writing.proofs.Appending.{append-none, append-length, append-more, append-next}
+use Rattle.writing.proofs.Rowing.{wordsAt, some-rules, record-counted, rules-appended, room-next, room-last, all-written}
+use Rattle.writing.proofs.write_rules.Statement.{statement}
+use Rattle.writing.proofs.write_rules.Tie as tie
 
 abbrev Inv-loop : tie.InvT-loop
 Inv-loop s A contexts out₀ n at₀ r₀ out at r = (r ≤ n) × Appended out₀ 0 (each r (wordsAt s A)) at out

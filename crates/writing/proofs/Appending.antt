@@ -9,7 +9,7 @@ use lib.Seq.{length-sets}
 use Rattle.meaning.specs.Run.{each, written}
 use Rattle.meaning.proofs.Runs.{each-more}
 use Rattle.meaning.proofs.Stores.{sets-append, sets-written}
-use Rattle.translate.specs.Appended.{Appended}
+use Rattle.writing.specs.Appended.{Appended}
 
 -- One member.
 pub append-one : (old : List ℕ) (at b : ℕ) → Appended old at (b ∷ []) (at + 1) (set old at b)

@@ -3,9 +3,9 @@ use Prim.Native.Nat.{_≤_, _<_}
 use native.Mathlib.Omega.{arith}
 use borrow.Author.Needs.{needs}
 use Rattle.paths.proofs.Moving.{core-kind, first-small, second-small}
-use Rattle.translate.proofs.Rowing.{record-rules}
-use Rattle.translate.proofs.record_rows.Statement.{statement}
-use Rattle.translate.proofs.record_rows.Tie as tie
+use Rattle.writing.proofs.Rowing.{record-rules}
+use Rattle.writing.proofs.record_rows.Statement.{statement}
+use Rattle.writing.proofs.record_rows.Tie as tie
 
 -- ---- what is known of the record
 abbrev start : tie.After-field-b → tie.Start

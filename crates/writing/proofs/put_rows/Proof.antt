@@ -3,9 +3,9 @@ use mathlib.Core.Path.{_≡_}
 use native.Mathlib.Omega.{arith}
 use borrow.Author.Needs.{needs}
 use Rattle.meaning.specs.Run.{each}
-use Rattle.translate.proofs.Appending.{append-length, append-more}
-use Rattle.translate.proofs.put_rows.Statement.{statement}
-use Rattle.translate.proofs.put_rows.Tie as tie
+use Rattle.writing.proofs.Appending.{append-length, append-more}
+use Rattle.writing.proofs.put_rows.Statement.{statement}
+use Rattle.writing.proofs.put_rows.Tie as tie
 
 -- ---- the places of the rows before
 abbrev first : tie.After-put-row2 → tie.After-put-row

@@ -26,8 +26,8 @@ use Rattle.records.specs.Code.{modeOf}
 use Rattle.records.proofs.Ranges.{stretch}
 use Rattle.contexts.specs.Contexts.{packed, entryBy, contextsOf}
 use Rattle.rows.specs.Rows.{rowsOf}
-use Rattle.translate.specs.Appended.{Appended, wordsIn}
-use Rattle.translate.proofs.Appending.{append-length, append-more, append-written}
+use Rattle.writing.specs.Appended.{Appended, wordsIn}
+use Rattle.writing.proofs.Appending.{append-length, append-more, append-written}
 
 -- ---- by the kind
 formula-same : (K : Kind) (m n : Mode) (x a b c d i : ℕ) → sortOf K ≡ formula
