@@ -24,7 +24,7 @@ use Rattle.meaning.proofs.First.{Clear, none-clear}
 use Rattle.meaning.proofs.Nodes.{path-node, either-sort}
 use Rattle.records.proofs.Ranges.{stretch, onward}
 use Rattle.records.proofs.Numbers.{formula-number, path-number}
-use Rattle.paths.specs.Asking.{bits, waysOf, MayAt, Known, Asked}
+use Rattle.paths.specs.Asking.{bits, waysOf, MayAt, Known, Scanned}
 
 -- ---- bits
 -- A test of three Bools that all pass, or of twice three, is one equation that antt computes.
@@ -108,7 +108,7 @@ no-star n o =
       | inr l ↦ sym (onward isStar 11 37 refl n (omega arith))
     ]
 
-module _ {s : List ℕ} {r : ℕ} {ways : List ℕ} (w : Asked s r ways) where
+module _ {s : List ℕ} {r : ℕ} {ways : List ℕ} (w : Scanned s r ways) where
   -- By its kind's node.
   by-node : {K : Kind} {x : ℕ} → kindAt s r ≡ K → x ≡ waysOf (asPath (nodeOf K (fieldA s r) (fieldB s r) (treeAt s)))
       → MayAt s r x

@@ -4,7 +4,7 @@
 --   waysOf p         what the path p may do, as bits: 1 has steps, 2 has back steps, 4 may stand still
 --   MayAt s q x      if record q is a path, x is what it may do
 --   Known s m ways   the array has what each path before record m may do
---   Asked s r ways   record r is one of a formula's, and that is known up to it
+--   Scanned s r ways record r is one of a formula's, and that is known up to it
 use Prim.Native.Nat.{ℕ, _+_, _<_}
 use mathlib.Core.Path.{_≡_}
 use mathlib.Core.Bool.{Bool, false, cond}
@@ -36,7 +36,7 @@ pub record Known (s : List ℕ) (m : ℕ) (ways : List ℕ) : Type 0 where
   pub size : length ways ≡ mostRecords
   pub before : (q : ℕ) → q < m → MayAt s q (getD ways q 0)
 
-pub record Asked (s : List ℕ) (r : ℕ) (ways : List ℕ) : Type 0 where
+pub record Scanned (s : List ℕ) (r : ℕ) (ways : List ℕ) : Type 0 where
   pub whole : Formed s
   pub index : r < count s
   pub known : Known s r ways

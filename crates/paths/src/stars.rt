@@ -3,7 +3,7 @@
 ghost use mathlib.Core.Path.{_≡_};
 ghost use mathlib.Core.List.{[], _∷_};
 ghost use Rattle.meaning.specs.Refusal.{firstOf, ground11, ground12, starGrounds};
-ghost use Rattle.paths.specs.Asking.{Formed, Asked, MayAt};
+ghost use Rattle.paths.specs.Asking.{Formed, Scanned, MayAt};
 use records::kind;
 use records::layout;
 
@@ -21,7 +21,7 @@ const TURNS: u8 = 3;
 
 // What record r may do, if it is a path; what a test's formula may do does not count. `ways` has that of the paths before it.
 fn ways_of(records: &[u8], ways: &[u8; layout::MOST_RECORDS], r: usize) -> u8
-    requires { ⌜ Asked (now records) r (now ways) ⌝ }
+    requires { ⌜ Scanned (now records) r (now ways) ⌝ }
     ensures { λ x. ⌜ MayAt (now (records .entry)) r x ⌝ }
 {
     let first = ways[layout::field_a(records, r)];
@@ -40,7 +40,7 @@ fn ways_of(records: &[u8], ways: &[u8; layout::MOST_RECORDS], r: usize) -> u8
 
 // 12, then 11, of record r.
 fn star_refusal(records: &[u8], ways: &[u8; layout::MOST_RECORDS], r: usize) -> u8
-    requires { ⌜ Asked (now records) r (now ways) ⌝ }
+    requires { ⌜ Scanned (now records) r (now ways) ⌝ }
     ensures { λ x. ⌜ x ≡ firstOf (ground12 (now (records .entry)) r ∷ ground11 (now (records .entry)) r ∷ []) ⌝ }
 {
     if layout::kind_at(records, r) != kind::STAR {
