@@ -21,7 +21,7 @@ use Rattle.checks.proofs as checks
 use Rattle.checks.proofs.refusal as refusal
 use Rattle.paths.proofs.stars as stars
 use Rattle.contexts.proofs as contexts
-use Rattle.rows.proofs as rows
+use Rattle.rulings.proofs as rulings
 use Rattle.writing.proofs as writing
 use Rattle.expand.proofs as expand
 use Rattle.trace.proofs as trace
@@ -78,10 +78,10 @@ pub record OneOutcome : Type 0 where
   pub find-contexts : OneFits contexts.find_contexts.Kinds.ps contexts.find_contexts.Kinds.r contexts.find_contexts.Reads.Post
   pub mode : OneFits contexts.mode.Kinds.ps contexts.mode.Kinds.r contexts.mode.Reads.Post
   pub continuation : OneFits contexts.continuation.Kinds.ps contexts.continuation.Kinds.r contexts.continuation.Reads.Post
-  -- rows
-  pub rows-of : OneFits rows.rows_of.Kinds.ps rows.rows_of.Kinds.r rows.rows_of.Reads.Post
-  pub row-count : OneFits rows.row_count.Kinds.ps rows.row_count.Kinds.r rows.row_count.Reads.Post
-  pub assert-row : OneFits rows.assert_row.Kinds.ps rows.assert_row.Kinds.r rows.assert_row.Reads.Post
+  -- rulings
+  pub rows-of : OneFits rulings.rows_of.Kinds.ps rulings.rows_of.Kinds.r rulings.rows_of.Reads.Post
+  pub row-count : OneFits rulings.row_count.Kinds.ps rulings.row_count.Kinds.r rulings.row_count.Reads.Post
+  pub assert-row : OneFits rulings.assert_row.Kinds.ps rulings.assert_row.Kinds.r rulings.assert_row.Reads.Post
   -- writing
   pub rule-count : OneFits writing.rule_count.Kinds.ps writing.rule_count.Kinds.r writing.rule_count.Reads.Post
   pub write-rules : OneFits writing.write_rules.Kinds.ps writing.write_rules.Kinds.r writing.write_rules.Reads.Post

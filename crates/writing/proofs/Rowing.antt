@@ -25,7 +25,7 @@ use Rattle.meaning.proofs.Runs.{each-more, getD-tabulate}
 use Rattle.records.specs.Code.{modeOf}
 use Rattle.records.proofs.Ranges.{stretch}
 use Rattle.contexts.specs.Contexts.{packed, entryBy, contextsOf}
-use Rattle.rows.specs.Rows.{rowsOf}
+use Rattle.rulings.specs.Rows.{rowsOf}
 use Rattle.writing.specs.Appended.{Appended, wordsIn}
 use Rattle.writing.proofs.Appending.{append-length, append-more, append-written}
 

@@ -8,13 +8,13 @@ ghost use Rattle.meaning.specs.Rule.{words, ruleSize};
 ghost use Rattle.meaning.specs.Translation.{context, rulesAt, translation, ruleNumber, ruleSum};
 ghost use Rattle.paths.specs.Asking.{Formed, Ready};
 ghost use Rattle.contexts.specs.Contexts.{contextsOf};
-ghost use Rattle.rows.specs.Rows.{rowsOf};
+ghost use Rattle.rulings.specs.Rows.{rowsOf};
 ghost use Rattle.writing.specs.Appended.{Appended, rowWords, wordsIn};
 use contexts::Contexts;
 use records::layout;
-use rows::Labels;
-use rows::Row;
-use rows::Rows;
+use rulings::Labels;
+use rulings::Row;
+use rulings::Rows;
 use rules::RULE_SIZE;
 
 // How many rules the translation has.
@@ -37,7 +37,7 @@ fn count_at(records: &[u8], contexts: &Contexts, r: usize) -> usize
     requires { ⌜ Formed (now records) × (now contexts ≡ contextsOf (now records)) × (r < count (now records)) ⌝ }
     ensures { λ n. ⌜ n ≡ ruleNumber (kindAt (now (records .entry)) r) (context (now (records .entry)) r .mode) ⌝ }
 {
-    rows::row_count(layout::kind_at(records, r), contexts::mode(contexts[r]))
+    rulings::row_count(layout::kind_at(records, r), contexts::mode(contexts[r]))
 }
 
 // Writes the rules of each record in turn, and at last the one that asserts the whole formula, and gives their number.
@@ -55,7 +55,7 @@ pub fn write_rules(records: &[u8], atoms: usize, contexts: &Contexts, out: &mut 
         at = put_rows(out, at, rows, count);
         r += 1;
     }
-    put_row(out, at, rows::assert_row(label(atoms, n - 1))) / RULE_SIZE
+    put_row(out, at, rulings::assert_row(label(atoms, n - 1))) / RULE_SIZE
 }
 
 // The symbol of record r's label.
@@ -81,7 +81,7 @@ fn record_rows(records: &[u8], atoms: usize, contexts: &Contexts, r: usize) -> R
         b: label(atoms, b),
         c: label(atoms, contexts::continuation(context)),
     };
-    rows::rows_of(kind, contexts::mode(context), labels, a as u16)
+    rulings::rows_of(kind, contexts::mode(context), labels, a as u16)
 }
 
 // Writes the first rows, two to four as count says, to the output at a place, and gives the place after them.

@@ -3,8 +3,8 @@ use borrow.Author.Needs.{needs}
 use borrow.Author.Tests.{eq-eqb, ne-eqb}
 use Rattle.meaning.specs.Translation.{moveRules}
 use Rattle.records.specs.Code.{wayOf}
-use Rattle.rows.proofs.move_rows.Statement.{statement}
-use Rattle.rows.proofs.move_rows.Tie as tie
+use Rattle.rulings.proofs.move_rows.Statement.{statement}
+use Rattle.rulings.proofs.move_rows.Tie as tie
 
 pub move-rows-spec : {M : Type 1} → statement M
 unfolding moveRules wayOf

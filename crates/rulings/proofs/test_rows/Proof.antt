@@ -3,8 +3,8 @@ use borrow.Author.Needs.{needs}
 use borrow.Author.Tests.{eq-eqb, ne-eqb}
 use Rattle.meaning.specs.Translation.{testRules}
 use Rattle.records.specs.Code.{modeOf}
-use Rattle.rows.proofs.test_rows.Statement.{statement}
-use Rattle.rows.proofs.test_rows.Tie as tie
+use Rattle.rulings.proofs.test_rows.Statement.{statement}
+use Rattle.rulings.proofs.test_rows.Tie as tie
 
 pub test-rows-spec : {M : Type 1} → statement M
 unfolding testRules modeOf

@@ -6,7 +6,7 @@ ghost use Rattle.meaning.specs.Rule.{rule};
 ghost use mathlib.Core.List.{[], _∷_, _++_};
 ghost use Rattle.meaning.specs.Translation.{rulesOf, sameRules, edgeRule, joinRules, testRules, moveRules, ruleNumber};
 ghost use Rattle.records.specs.Code.{modeOf, wayOf};
-ghost use Rattle.rows.specs.Rows.{rowOf, rowsOf, Small};
+ghost use Rattle.rulings.specs.Rows.{rowOf, rowsOf, Small};
 use records::kind;
 use rules::EVERY;
 use rules::FALSE;

@@ -2,8 +2,8 @@
 use borrow.Author.Tests.{eq-eqb, ne-eqb}
 use Rattle.meaning.specs.Translation.{joinRules}
 use Rattle.records.specs.Code.{modeOf}
-use Rattle.rows.proofs.join_rows.Statement.{statement}
-use Rattle.rows.proofs.join_rows.Tie as tie
+use Rattle.rulings.proofs.join_rows.Statement.{statement}
+use Rattle.rulings.proofs.join_rows.Tie as tie
 
 pub join-rows-spec : {M : Type 1} → statement M
 unfolding joinRules modeOf

@@ -9,8 +9,8 @@ use Rattle.meaning.specs.Translation.{ruleNumber}
 use Rattle.meaning.proofs.Bounds.{le-or-lt}
 use Rattle.records.specs.Code.{modeOf}
 use Rattle.records.proofs.Ranges.{stretch}
-use Rattle.rows.proofs.row_count.Statement.{statement}
-use Rattle.rows.proofs.row_count.Tie as tie
+use Rattle.rulings.proofs.row_count.Statement.{statement}
+use Rattle.rulings.proofs.row_count.Tie as tie
 
 -- A formula.
 two-rows : (n : ℕ) (m : Mode) → n < 5 → 2 ≡ ruleNumber (kindOf n) m

@@ -2,8 +2,8 @@
 use borrow.Author.Tests.{eq-eqb, ne-eqb}
 use Rattle.meaning.specs.Translation.{edgeRule}
 use Rattle.records.specs.Code.{modeOf}
-use Rattle.rows.proofs.edge_row.Statement.{statement}
-use Rattle.rows.proofs.edge_row.Tie as tie
+use Rattle.rulings.proofs.edge_row.Statement.{statement}
+use Rattle.rulings.proofs.edge_row.Tie as tie
 
 pub edge-row-spec : {M : Type 1} → statement M
 unfolding edgeRule modeOf

@@ -7,8 +7,8 @@ use borrow.Author.Needs.{needs}
 use Rattle.meaning.specs.Record.{kinds, kindOf}
 use Rattle.meaning.specs.Translation.{rulesOf}
 use Rattle.records.proofs.Numbers.{modal-kind, move-kind}
-use Rattle.rows.proofs.rows_of.Statement.{statement}
-use Rattle.rows.proofs.rows_of.Tie as tie
+use Rattle.rulings.proofs.rows_of.Statement.{statement}
+use Rattle.rulings.proofs.rows_of.Tie as tie
 
 -- ---- the kinds that no other arm takes
 from-three : (n : ℕ) → (n ≡ 0 → ⊥) → (n ≡ 1 → ⊥) → (n ≡ 2 → ⊥) → 3 ≤ n
