@@ -4,7 +4,6 @@
 use Prim.Native.Nat.{ℕ, zero, suc, _+_, _*_, _≤_}
 use mathlib.Core.Path.{_≡_, refl, sym, _∙_}
 use mathlib.Core.List.{List, [], _∷_, _++_}
-use mathlib.Core.Logic.{inl, inr}
 use native.Mathlib.Omega.{arith}
 use borrow.Author.Tests.{eq-eqb, ne-eqb}
 use lib.ListN.{length, getD, drop, replicate, length-replicate}
@@ -12,11 +11,10 @@ use lib.Seq.{getD-drop}
 use Rattle.meaning.specs.Run.{each, written}
 use Rattle.meaning.specs.Rule.{ruleSize, words}
 use Rattle.meaning.specs.Translation.{translation}
-use Rattle.meaning.specs.Refusal.{firstOf, mostAtoms, mostRules, starredGrounds, translateGrounds}
+use Rattle.meaning.specs.Refusal.{firstOf, mostAtoms, mostRules, translateGrounds}
 use Rattle.meaning.specs.Service.{translateAnswer, translateAfter}
-use Rattle.meaning.proofs.Bounds.{le-or-lt}
-use Rattle.translate.proofs.Answering.{refused, refused-room}
-use Rattle.listing.specs.Printed.{ascii, told, word, line, lineEnd, printed}
+use Rattle.translate.proofs.Answering.{accepted}
+use Rattle.listing.specs.Printed.{ascii, spelled, word, line, lineEnd, printed}
 
 -- ---- zeros
 abbrev zeros : ℕ → List ℕ
@@ -60,21 +58,12 @@ module _ (s : List ℕ) where
   abbrev rules : ℕ
   rules = length (translation s mostAtoms)
 
-  enough : refusal ≡ 0 → ruleSize * rules ≤ ruleSize * mostRules
-  enough e = elim (le-or-lt (ruleSize * rules) (ruleSize * mostRules)) [
-    | inl h ↦ h
-    | inr h ↦ elim (le-or-lt (firstOf (starredGrounds s mostAtoms)) 0) [
-      | inl l ↦ absurd (omega (arith, refused-room s mostAtoms (ruleSize * mostRules) (omega arith) h))
-      | inr l ↦ absurd (omega (arith, refused s mostAtoms (ruleSize * mostRules) refl (λ z. omega arith)))
-    ]
-  ]
-
   module _ {x : ℕ} (answered : x ≡ translateAnswer s mostAtoms (length room) .refusal) where
     is-refusal : x ≡ refusal
     unfolding translateAnswer
     is-refusal = answered ∙ rw (length-replicate {A = ℕ} (ruleSize * mostRules) 0)
 
-    pub printed-refused : (x ≡ 0 → ⊥) → printed s ≡ ascii "refused " ++ told x lineEnd
+    pub printed-refused : (x ≡ 0 → ⊥) → printed s ≡ ascii "refused " ++ spelled x lineEnd
     unfolding printed
     printed-refused n = rw (← is-refusal, ne-eqb x 0 n)
 
@@ -84,10 +73,10 @@ module _ (s : List ℕ) where
       all-counted = counted ∙ rw (eq-eqb _ 0 (sym answered ∙ none))
 
       pub few-rules : n ≤ mostRules
-      few-rules = omega (arith, enough (sym is-refusal ∙ none), all-counted)
+      few-rules = omega (arith, accepted s mostAtoms _ (sym is-refusal ∙ none) .1, all-counted)
 
       pub printed-rules : {ws : List ℕ} → ws ≡ translateAfter s mostAtoms room
-          → printed s ≡ each n (line ws) ++ (ascii "rules " ++ told n lineEnd)
+          → printed s ≡ each n (line ws) ++ (ascii "rules " ++ spelled n lineEnd)
       unfolding printed translateAfter
       printed-rules e =
           let same = same-lines (words (translation s mostAtoms)) (ruleSize * mostRules) n in

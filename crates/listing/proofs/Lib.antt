@@ -1,4 +1,3 @@
 -- What the proofs of several functions cite.
 pub mod Spelling
-pub mod Putting
 pub mod Answered

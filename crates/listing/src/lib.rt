@@ -4,19 +4,25 @@ ghost use mathlib.Core.List.{_++_};
 ghost use Prim.Native.Nat.{_*_, _+_, _<_, _≤_};
 ghost use lib.ListN.{length};
 ghost use Rattle.meaning.specs.Run.{each, written};
-ghost use Rattle.listing.specs.Printed.{told, line, lineEnd, printed};
+ghost use Rattle.meaning.specs.Rule.{ruleSize};
+ghost use Rattle.writing.specs.Appended.{Appended};
+ghost use Rattle.listing.specs.Printed.{spelled, line, lineEnd, printed, mostSpelled, mostLine, mostText};
 ghost use Rattle.listing.specs.Printed.{gap as Printed·gap};
-ghost use Rattle.listing.specs.Put.{Put};
 use records::layout;
 use rules::MOST_RULES;
 use rules::RULE_SIZE;
 
-// Room for the longest text: 1,021 lines of at most 36 bytes, and a last one of at most 12.
-pub const MOST_TEXT: usize = 36768;
+// The longest text: a line for each rule, six words of at most six bytes, and a last line of at most 12.
+const MOST_LINE: usize = 36;
+
+pub const MOST_TEXT: usize = MOST_LINE * MOST_RULES + 12;
 
 const SPACE: u8 = 32;
 
 const LINE_END: u8 = 10;
+
+// A rule's last word is followed by the line's end.
+const LAST_WORD: usize = RULE_SIZE - 1;
 
 // One byte more than a formula's records take, so that anything longer is refused.
 const READ: usize = layout::MOST_BYTES + 1;
@@ -35,7 +41,7 @@ pub fn run() {
 
 // Puts the text for the records at the start of the output, and gives its length. The output is as long as its type says.
 pub fn text(records: &[u8], out: &mut [u8; MOST_TEXT]) -> usize
-    requires { ⌜ length (now out) ≡ 36768 ⌝ }
+    requires { ⌜ length (now out) ≡ mostText ⌝ }
     ensures size { λ e. ⌜ e ≡ length (printed (now (records .entry))) ⌝ }
     ensures bytes { λ _. ⌜ now (out .exit) ≡ written (printed (now (records .entry))) (now (out .entry)) ⌝ }
 {
@@ -50,8 +56,8 @@ pub fn text(records: &[u8], out: &mut [u8; MOST_TEXT]) -> usize
 
 // Puts a line for each of n rules at the start of the output, and gives the place after them.
 fn put_rules(out: &mut [u8], words: &[u16], n: usize) -> usize
-    requires { ⌜ (6 * n ≤ length (now words)) × (36 * n ≤ length (now out)) ⌝ }
-    ensures { λ e. ⌜ Put (now (out .entry)) 0 (each n (line (now (words .entry)))) e (now (out .exit)) × (e ≤ 36 * n) ⌝ }
+    requires { ⌜ (ruleSize * n ≤ length (now words)) × (mostLine * n ≤ length (now out)) ⌝ }
+    ensures { λ e. ⌜ Appended (now (out .entry)) 0 (each n (line (now (words .entry)))) e (now (out .exit)) × (e ≤ mostLine * n) ⌝ }
 {
     let mut at: usize = 0;
     let mut i: usize = 0;
@@ -64,13 +70,13 @@ fn put_rules(out: &mut [u8], words: &[u16], n: usize) -> usize
 
 // Puts the six words of rule i at a place, on a line, and gives the place after the line.
 fn put_rule(out: &mut [u8], at: usize, words: &[u16], i: usize) -> usize
-    requires { ⌜ (6 * i + 6 ≤ length (now words)) × (at + 36 ≤ length (now out)) ⌝ }
-    ensures { λ e. ⌜ Put (now (out .entry)) at (line (now (words .entry)) i) e (now (out .exit)) × (e ≤ at + 36) ⌝ }
+    requires { ⌜ (ruleSize * i + ruleSize ≤ length (now words)) × (at + mostLine ≤ length (now out)) ⌝ }
+    ensures { λ e. ⌜ Appended (now (out .entry)) at (line (now (words .entry)) i) e (now (out .exit)) × (e ≤ at + mostLine) ⌝ }
 {
     let mut e = at;
     let mut j: usize = 0;
-    while j < 6 {
-        e = put_number(out, e, wide(words[6 * i + j]), gap(j));
+    while j < RULE_SIZE {
+        e = put_number(out, e, wide(words[RULE_SIZE * i + j]), gap(j));
         j += 1;
     }
     e
@@ -87,13 +93,13 @@ fn wide(w: u16) -> u64
 fn gap(j: usize) -> u8
     ensures { λ b. ⌜ b ≡ Printed·gap j ⌝ }
 {
-    if j == 5 { LINE_END } else { SPACE }
+    if j == LAST_WORD { LINE_END } else { SPACE }
 }
 
 // Puts the last line at a place, a word and a number, and gives the place after the line.
 fn put_last(out: &mut [u8], at: usize, word: &[u8], n: u64) -> usize
-    requires { ⌜ (n < 65536) × (at + length (now word) + 6 ≤ length (now out)) ⌝ }
-    ensures { λ e. ⌜ Put (now (out .entry)) at (now (word .entry) ++ told n lineEnd) e (now (out .exit)) × (e ≤ at + length (now (word .entry)) + 6) ⌝ }
+    requires { ⌜ (n < 65536) × (at + length (now word) + mostSpelled ≤ length (now out)) ⌝ }
+    ensures { λ e. ⌜ Appended (now (out .entry)) at (now (word .entry) ++ spelled n lineEnd) e (now (out .exit)) × (e ≤ at + length (now (word .entry)) + mostSpelled) ⌝ }
 {
     let e = put_bytes(out, at, word);
     put_number(out, e, n, LINE_END)
@@ -101,8 +107,8 @@ fn put_last(out: &mut [u8], at: usize, word: &[u8], n: u64) -> usize
 
 // Puts the digits of n at a place, a byte after them, and gives the place after that.
 fn put_number(out: &mut [u8], at: usize, n: u64, end: u8) -> usize
-    requires { ⌜ (n < 65536) × (at + 6 ≤ length (now out)) ⌝ }
-    ensures { λ e. ⌜ Put (now (out .entry)) at (told n end) e (now (out .exit)) × (e ≤ at + 6) ⌝ }
+    requires { ⌜ (n < 65536) × (at + mostSpelled ≤ length (now out)) ⌝ }
+    ensures { λ e. ⌜ Appended (now (out .entry)) at (spelled n end) e (now (out .exit)) × (e ≤ at + mostSpelled) ⌝ }
 {
     let mut digits = [0u8; 20];
     let size = io::decimal(n, &mut digits);
@@ -114,7 +120,7 @@ fn put_number(out: &mut [u8], at: usize, n: u64, end: u8) -> usize
 // Copies the bytes to the output at a place, and gives the place after them.
 fn put_bytes(out: &mut [u8], at: usize, bytes: &[u8]) -> usize
     requires { ⌜ at + length (now bytes) ≤ length (now out) ⌝ }
-    ensures { λ e. ⌜ Put (now (out .entry)) at (now (bytes .entry)) e (now (out .exit)) ⌝ }
+    ensures { λ e. ⌜ Appended (now (out .entry)) at (now (bytes .entry)) e (now (out .exit)) ⌝ }
 {
     let mut i: usize = 0;
     while i < bytes.len() {

@@ -20,6 +20,9 @@ use Rattle.records.proofs.shape as shape
 use Rattle.checks.proofs as checks
 use Rattle.checks.proofs.refusal as refusal
 use Rattle.paths.proofs.stars as stars
+use Rattle.contexts.proofs as contexts
+use Rattle.rulings.proofs as rulings
+use Rattle.writing.proofs as writing
 use Rattle.expand.proofs as expand
 use Rattle.trace.proofs as trace
 use Rattle.rows.specs.Cells.{at}
@@ -74,6 +77,17 @@ pub record OneOutcome : Type 0 where
   pub check : OneFits checks.check.Kinds.ps checks.check.Kinds.r checks.check.Reads.Post
   -- paths
   pub stars-refusal : OneFits stars.stars_refusal.Kinds.ps stars.stars_refusal.Kinds.r stars.stars_refusal.Reads.Post
+  -- contexts
+  pub find-contexts : OneFits contexts.find_contexts.Kinds.ps contexts.find_contexts.Kinds.r contexts.find_contexts.Reads.Post
+  pub mode : OneFits contexts.mode.Kinds.ps contexts.mode.Kinds.r contexts.mode.Reads.Post
+  pub continuation : OneFits contexts.continuation.Kinds.ps contexts.continuation.Kinds.r contexts.continuation.Reads.Post
+  -- rulings
+  pub rows-of : OneFits rulings.rows_of.Kinds.ps rulings.rows_of.Kinds.r rulings.rows_of.Reads.Post
+  pub row-count : OneFits rulings.row_count.Kinds.ps rulings.row_count.Kinds.r rulings.row_count.Reads.Post
+  pub assert-row : OneFits rulings.assert_row.Kinds.ps rulings.assert_row.Kinds.r rulings.assert_row.Reads.Post
+  -- writing
+  pub rule-count : OneFits writing.rule_count.Kinds.ps writing.rule_count.Kinds.r writing.rule_count.Reads.Post
+  pub write-rules : OneFits writing.write_rules.Kinds.ps writing.write_rules.Kinds.r writing.write_rules.Reads.Post
   -- trace
   pub wrong-size : OneFits trace.wrong_size.Kinds.ps trace.wrong_size.Kinds.r trace.wrong_size.Reads.Post
   pub cells-refusal : OneFits trace.cells_refusal.Kinds.ps trace.cells_refusal.Kinds.r trace.cells_refusal.Reads.Post

@@ -1,123 +1,104 @@
--- The moves of a path as bits. Its parts are earlier, so what is told of all paths before it tells its own moves. A star
--- has its body's: the body turns where the star has both bits.
-use Prim.Native.Nat.{ℕ, _+_, _*_, _<_, _≤_}
-use mathlib.Core.Path.{_≡_, refl, sym, _∙_}
-use mathlib.Core.Bool.{Bool, true, false, cond, _&&_, _||_}
+-- What a path may do, as bits. Its parts are earlier, so what is known of all paths before it gives its own; and a star is
+-- refused by its body's.
+use Prim.Native.Nat.{ℕ, _+_, _<_}
+use mathlib.Core.Path.{_≡_, refl, sym, ap, _∙_}
+use mathlib.Core.Bool.{Bool, true, false, cond, not, _&&_, _||_}
 use mathlib.Core.List.{List, [], _∷_}
 use mathlib.Core.Logic.{_≢_, inl, inr}
 use native.Mathlib.Omega.{arith}
 use borrow.Author.Count.{below-more}
-use lib.Bits.{bitOr, or-zero-l, or-block}
-use lib.Dec.{eqb}
+use borrow.Author.Tests.{eqb-true, not-true}
+use lib.Bits.{bitOr, bitAnd}
+use lib.Dec.{eqb, leb}
 use lib.ListN.{getD, set, length-set, replicate}
 use lib.Seq.{getD-set-same, getD-set-other}
-use Rattle.meaning.specs.Record.{mostRecords, choice, sequence, star, kinds, kindOf, kindAt, kindByte}
-use Rattle.meaning.specs.Record.{fieldA, fieldB, Sort, formula, path, sortOf}
+use Rattle.meaning.specs.Record.{mostRecords, Kind, move, test, choice, sequence, star, ahead, back, kinds, kindOf, kindAt, kindByte, count}
+use Rattle.meaning.specs.Record.{fieldA, fieldB, path, sortOf, Use, unused, atomNumber, child, useA, useB, columnsOf}
 use Rattle.meaning.specs.Formula.{mayStand, goes, sameWay}
 use Rattle.meaning.specs.Tree.{asPath, nodeOf, treeAt, pathAt}
 use Rattle.meaning.specs.Refusal.{Ground, firstOf, isStar, ground11, ground12}
+use Rattle.meaning.specs.WellFormed.{WellFormed, Fits}
 use Rattle.meaning.proofs.Bounds.{le-or-lt}
+use Rattle.meaning.proofs.Fails.{and-holds}
 use Rattle.meaning.proofs.First.{Clear, none-clear}
-use Rattle.records.specs.Code.{wayOf}
+use Rattle.meaning.proofs.Nodes.{path-node, either-sort}
 use Rattle.records.proofs.Ranges.{stretch, onward}
-use Rattle.records.proofs.Numbers.{formula-number, star-kind}
-use Rattle.paths.specs.Asking.{AskedPath, AskedRecord, bit, movesOf, MovesTold, Told}
-use Rattle.paths.proofs.Standing.{range, is-move, is-test, is-join, is-star, part-first, part-second}
+use Rattle.records.proofs.Numbers.{formula-number, path-number}
+use Rattle.paths.specs.Asking.{bits, waysOf, MayAt, Known, Scanned}
 
 -- ---- bits
-or-bit : (u v : Bool) → bitOr (bit u) (bit v) ≡ bit (u || v)
-or-bit true true = refl
-or-bit true false = refl
-or-bit false v = or-zero-l (bit v)
+-- A test of three Bools that all pass, or of twice three, is one equation that antt computes.
+abbrev every : (Bool → Bool) → Bool
+every f = f true && f false
 
-bit-below : (u : Bool) → bit u < 2
-bit-below true = omega arith
-bit-below false = omega arith
+at : (f : Bool → Bool) → every f ≡ true → (b : Bool) → f b ≡ true
+at f e true = and-holds (f true) (f false) .0 e .0
+at f e false = and-holds (f true) (f false) .0 e .1
 
--- Each bit is joined by itself.
-or-bits : (u v u′ v′ : Bool) → bitOr (bit u * 2 + bit v) (bit u′ * 2 + bit v′) ≡ bit (u || u′) * 2 + bit (v || v′)
-or-bits u v u′ v′ = or-block 1 (bit u) (bit u′) (bit v) (bit v′) (bit-below v) (bit-below v′) ∙ simp or-bit
+-- Two Bools are the same.
+abbrev both : Bool → Bool → Bool
+both x y = cond x y (not y)
 
--- Both are set.
-both-bits : (u v : Bool) → eqb (bit u * 2 + bit v) 3 ≡ (v && u)
-both-bits true true = refl
-both-bits true false = refl
-both-bits false true = refl
-both-bits false false = refl
+same : (x y : Bool) → both x y ≡ true → x ≡ y
+same true y e = sym e
+same false y e = sym (not-true y e)
 
--- A choice and a sequence have the moves of both parts.
-join-bits : (v : Bool) (s : List ℕ) (a b : ℕ)
-    → let node = nodeOf (cond v choice sequence) a b (treeAt s) in
-    bitOr (movesOf (pathAt s a)) (movesOf (pathAt s b)) ≡ movesOf (asPath node)
-unfolding nodeOf asPath goes movesOf
-join-bits true s a b = rw or-bits
-join-bits false s a b = rw or-bits
+abbrev every3 : (Bool → Bool → Bool → Bool) → Bool
+every3 f = every (λ x. every (λ y. every (f x y)))
 
--- ---- the array
-pub told-none : (s : List ℕ) → Told s 0 (replicate mostRecords 0)
-told-none s = record { size = refl; tells = λ q l. absurd (omega arith) }
+at3 : (f : Bool → Bool → Bool → Bool) → every3 f ≡ true → (x y z : Bool) → f x y z ≡ true
+at3 f e x y z = at (f x y) (at (λ y. every (f x y)) (at (λ x. every (λ y. every (f x y))) e x) y) z
 
-pub told-more : {s ways : List ℕ} {r x : ℕ} → r < mostRecords → Told s r ways → MovesTold s r x
-    → Told s (r + 1) (set ways r x)
-told-more {s} {ways} {r} {x} l t m = record {
-  size = length-set ways r x ∙ t .size;
-  tells =
-      below-more (λ q. MovesTold s q (getD (set ways r x) q 0)) r
-      (λ q h. rw (getD-set-other ways r q x 0 (λ z. omega arith)) (t .tells q h))
-      (rw (getD-set-same ways r x 0 (omega (arith, t .size))) m);
-}
+abbrev Test : Type 0
+Test = Bool → Bool → Bool → Bool → Bool → Bool → Bool
 
--- ---- the moves of record r, whose kind has the number n
-module _ {s : List ℕ} {r n : ℕ} (w : AskedRecord s r n) where
-  -- It is a path from the number 5 on.
-  path-asked : 5 ≤ n → AskedPath s r
-  path-asked h = record { whole = w .whole; index = w .index; sorted = go (sortOf (kindAt s r)) refl }
-    where
-      go : (σ : Sort) → sortOf (kindAt s r) ≡ σ → σ ≡ path
-      go formula e = absurd (omega (arith, w .number, formula-number (w .whole .formed) r (w .index) e))
-      go path e = refl
+at6 : (f : Test) → every3 (λ x y z. every3 (f x y z)) ≡ true → (x y z x′ y′ z′ : Bool) → f x y z x′ y′ z′ ≡ true
+at6 f e x y z = at3 (f x y z) (at3 (λ x y z. every3 (f x y z)) e x y z)
 
-  pub step-moves : n ≡ 5 → MovesTold s r 1
-  unfolding nodeOf asPath goes sameWay wayOf movesOf
-  step-moves e _ = rw (is-move (path-asked (omega arith)) (w .number) (omega arith), e)
+module _ (x y z x′ y′ z′ : Bool) where
+  choice-bits : bitOr (bits x y z) (bits x′ y′ z′) ≡ bits (x || x′) (y || y′) (z || z′)
+  choice-bits =
+      eqb-true _ _ (at6 (λ x y z x′ y′ z′. eqb (bitOr (bits x y z) (bits x′ y′ z′)) (bits (x || x′) (y || y′) (z || z′))) refl x y z x′ y′ z′)
 
-  pub back-moves : n ≡ 6 → MovesTold s r 2
-  unfolding nodeOf asPath goes sameWay wayOf movesOf
-  back-moves e _ = rw (is-move (path-asked (omega arith)) (w .number) (omega arith), e)
+  sequence-bits :
+      let m = bits x y z in let n = bits x′ y′ z′ in
+      bitOr (bitAnd m n) (bitAnd (bitOr m n) 3) ≡ bits (x && x′) (y || y′) (z || z′)
+  sequence-bits =
+      eqb-true _ _ (at6
+      (λ x y z x′ y′ z′.
+      let m = bits x y z in let n = bits x′ y′ z′ in
+      eqb (bitOr (bitAnd m n) (bitAnd (bitOr m n) 3)) (bits (x && x′) (y || y′) (z || z′)))
+      refl x y z x′ y′ z′)
 
-  -- A test is the one other path with a number below 8.
-  pub test-moves : n < 8 → n ≢ 5 → n ≢ 6 → MovesTold s r 0
-  unfolding nodeOf asPath goes movesOf
-  test-moves h step back sorted =
-      let p : AskedPath s r = record { whole = w .whole; index = w .index; sorted = sorted } in
-      rw (is-test p (w .number) (omega (arith, range p (w .number))))
+module _ (x y z : Bool) where
+  star-bits : bitOr (bits x y z) 4 ≡ bits true y z
+  star-bits = eqb-true _ _ (at3 (λ x y z. eqb (bitOr (bits x y z) 4) (bits true y z)) refl x y z)
 
-  module _ (h : 8 ≤ n) where
-    asked : AskedPath s r
-    asked = path-asked (omega arith)
+  -- The questions that are asked of a star's body.
+  turns-bits : eqb (bitAnd (bits x y z) 3) 3 ≡ (z && y)
+  turns-bits = same _ _ (at3 (λ x y z. both (eqb (bitAnd (bits x y z) 3) 3) (z && y)) refl x y z)
 
-    pub first-part : {a : ℕ} → a ≡ fieldA s r → (a < r) × AskedPath s a
-    first-part = part-first asked (w .number) h
+  stands-bits : leb 4 (bits x y z) ≡ x
+  stands-bits = same _ _ (at3 (λ x y z. both (leb 4 (bits x y z)) x) refl x y z)
 
-    pub second-part : {b : ℕ} → n ≢ 10 → b ≡ fieldB s r → (b < r) × AskedPath s b
-    second-part = part-second asked (w .number) h
+-- ---- one record
+module _ {s : List ℕ} {A : ℕ} (w : WellFormed false s A) {r : ℕ} (l : r < count s) where
+  pub core-kind : kindByte s r < 11
+  core-kind =
+      elim (either-sort (sortOf (kindAt s r)))
+      [ inl e ↦ omega (arith, formula-number w r l e) | inr e ↦ path-number w r l e .1 ]
 
-    module _ {ways : List ℕ} (t : Told s r ways) where
-      part-told : {q : ℕ} → (q < r) × AskedPath s q → getD ways q 0 ≡ movesOf (pathAt s q)
-      part-told p = t .tells _ (p .0) (p .1 .sorted)
+  field-small : (u : Use) (v : ℕ) → Fits s A r u v → v < 255
+  field-small unused v h = omega arith
+  field-small atomNumber v h = omega (arith, w .atoms)
+  field-small (child σ) v h = omega (arith, h .0, w .few)
 
-      pub star-moves : {a : ℕ} → n ≡ 10 → a ≡ fieldA s r → MovesTold s r (getD ways a 0)
-      unfolding nodeOf asPath goes movesOf
-      star-moves ten first _ = part-told (first-part first) ∙ rw (first, is-star asked (w .number) ten)
+  pub first-small : fieldA s r < 255
+  first-small = field-small (useA (kindAt s r)) _ (w .first r l)
 
-      pub join-moves : {a b : ℕ} → n ≢ 10 → a ≡ fieldA s r → b ≡ fieldB s r
-          → MovesTold s r (bitOr (getD ways a 0) (getD ways b 0))
-      join-moves o first second _ =
-          let a = part-told (first-part first) in
-          let b = part-told (second-part o second) in
-          rw (a, b, first, second, is-join asked (w .number) h o) (join-bits (eqb n 8) _ _ _)
+  pub second-small : fieldB s r < 255
+  second-small = field-small (useB (kindAt s r)) _ (w .second r l)
 
--- ---- its grounds
 -- Only the number 10 is a star's.
 no-star : (n : ℕ) → n ≢ 10 → isStar (kindOf n) ≡ false
 unfolding isStar kinds
@@ -127,24 +108,83 @@ no-star n o =
       | inr l ↦ sym (onward isStar 11 37 refl n (omega arith))
     ]
 
-abbrev grounds : List ℕ → ℕ → List Ground
-grounds s r = ground12 s r ∷ ground11 s r ∷ []
+module _ {s : List ℕ} {r : ℕ} {ways : List ℕ} (w : Scanned s r ways) where
+  -- By its kind's node.
+  by-node : {K : Kind} {x : ℕ} → kindAt s r ≡ K → x ≡ waysOf (asPath (nodeOf K (fieldA s r) (fieldB s r) (treeAt s)))
+      → MayAt s r x
+  by-node e h _ = h ∙ ap waysOf (sym (path-node (w .whole .formed) (w .index) e))
+
+  pub step-may : kindByte s r ≡ 5 → MayAt s r 1
+  unfolding kindOf kinds nodeOf asPath waysOf mayStand goes sameWay
+  step-may e = by-node {K = move ahead} (rw e) refl
+
+  pub back-may : kindByte s r ≡ 6 → MayAt s r 2
+  unfolding kindOf kinds nodeOf asPath waysOf mayStand goes sameWay
+  back-may e = by-node {K = move back} (rw e) refl
+
+  pub test-may : kindByte s r ≡ 7 → MayAt s r 4
+  unfolding kindOf kinds nodeOf asPath waysOf mayStand goes sameWay
+  test-may e = by-node {K = test} (rw e) refl
+
+  -- What is known of its parts.
+  part-first : child path ≡ useA (kindAt s r) → getD ways (fieldA s r) 0 ≡ waysOf (pathAt s (fieldA s r))
+  part-first e = let f = rw (← e) at (w .whole .formed .first r (w .index)) in w .known .before _ (f .0) (f .1)
+
+  part-second : child path ≡ useB (kindAt s r) → getD ways (fieldB s r) 0 ≡ waysOf (pathAt s (fieldB s r))
+  part-second e = let f = rw (← e) at (w .whole .formed .second r (w .index)) in w .known .before _ (f .0) (f .1)
+
+  abbrev first : ℕ
+  first = getD ways (fieldA s r) 0
+
+  abbrev second : ℕ
+  second = getD ways (fieldB s r) 0
+
+  pub choice-may : kindByte s r ≡ 8 → MayAt s r (bitOr first second)
+  unfolding kindOf kinds columnsOf nodeOf asPath waysOf mayStand goes
+  choice-may e = by-node {K = choice} (rw e) (rw (part-first (rw e), part-second (rw e), choice-bits))
+
+  pub sequence-may : kindByte s r ≡ 9 → MayAt s r (bitOr (bitAnd first second) (bitAnd (bitOr first second) 3))
+  unfolding kindOf kinds columnsOf nodeOf asPath waysOf mayStand goes
+  sequence-may e = by-node {K = sequence} (rw e) (rw (part-first (rw e), part-second (rw e), sequence-bits))
+
+  pub star-may : kindByte s r ≡ 10 → MayAt s r (bitOr first 4)
+  unfolding kindOf kinds columnsOf nodeOf asPath waysOf mayStand goes
+  star-may e = by-node {K = star} (rw e) (rw (part-first (rw e), star-bits))
+
+  -- No other kind is a path's.
+  pub other-may : (x : ℕ) → kindByte s r ≢ 5 → kindByte s r ≢ 6 → kindByte s r ≢ 7 → kindByte s r ≢ 8 → kindByte s r ≢ 9
+      → kindByte s r ≢ 10 → MayAt s r x
+  other-may x a b c d e f sorted = absurd (omega (arith, path-number (w .whole .formed) r (w .index) sorted))
+
+  -- ---- its grounds
+  abbrev grounds : List Ground
+  grounds = ground12 s r ∷ ground11 s r ∷ []
+
+  pub other-grounds : kindByte s r ≢ 10 → 0 ≡ firstOf grounds
+  unfolding firstOf ground11 ground12
+  other-grounds o = rw (no-star (kindByte s r) o)
+
+  -- A star's, by what its body may do.
+  pub star-grounds : {n a : ℕ} → n ≡ kindByte s r → n ≡ 10 → a ≡ fieldA s r
+      → let body = getD ways a 0 in firstOf grounds ≡ cond (eqb (bitAnd body 3) 3) 12 (cond (leb 4 body) 11 0)
+  unfolding kindOf kinds columnsOf firstOf ground11 ground12 isStar waysOf
+  star-grounds n ten a = let e = sym n ∙ ten in rw (a, part-first (rw e), turns-bits, stands-bits, e)
 
 -- Where they give no number, none applies.
-pub grounds-clear : (s : List ℕ) (r : ℕ) {x : ℕ} → x ≡ firstOf (grounds s r) → x ≡ 0 → Clear (grounds s r)
+pub grounds-clear : (s : List ℕ) (r : ℕ) {x : ℕ} → x ≡ firstOf (ground12 s r ∷ ground11 s r ∷ []) → x ≡ 0
+    → Clear (ground12 s r ∷ ground11 s r ∷ [])
 unfolding ground11 ground12
 grounds-clear s r e z = none-clear _ (omega arith, (omega arith, tt)) (sym e ∙ z)
 
-module _ {s : List ℕ} {r n : ℕ} (w : AskedRecord s r n) where
-  pub other-grounds : n ≢ 10 → 0 ≡ firstOf (grounds s r)
-  unfolding firstOf ground11 ground12
-  other-grounds o = rw (no-star (kindByte s r) (λ e. o (w .number ∙ e)))
+-- ---- one record more
+pub known-none : (s : List ℕ) → Known s 0 (replicate mostRecords 0)
+known-none s = record { size = refl; before = λ q l. absurd (omega arith) }
 
-  -- A star with the moves x, which are its body's; b tells whether the body a may stand still.
-  pub star-grounds : {x a : ℕ} {b : Bool} → n ≡ 10 → MovesTold s r x → a ≡ fieldA s r → b ≡ mayStand (pathAt s a)
-      → firstOf (grounds s r) ≡ cond (eqb x 3) 12 (cond b 11 0)
-  unfolding nodeOf asPath goes firstOf ground11 ground12 isStar movesOf
-  star-grounds ten t first stands =
-      let p = path-asked w (omega arith) in
-      let kind : kindAt s r ≡ star = rw (← w .number, ten) star-kind in
-      rw (t (p .sorted), stands, first, is-star p (w .number) ten, both-bits, kind)
+pub known-more : {s ways : List ℕ} {r x : ℕ} → r < mostRecords → Known s r ways → MayAt s r x → Known s (r + 1) (set ways r x)
+known-more {s} {ways} {r} {x} l k m = record {
+  size = length-set ways r x ∙ k .size;
+  before =
+      below-more (λ q. MayAt s q (getD (set ways r x) q 0)) r
+      (λ q h. rw (getD-set-other ways r q x 0 (λ z. omega arith)) (k .before q h))
+      (rw (getD-set-same ways r x 0 (omega (arith, k .size))) m);
+}

@@ -1,18 +1,17 @@
 -- What the questions about accepted records ask.
---   Formed s            the records of a formula, over some number of atoms
---   Ready s A           the records of a formula over A atoms
---   AskedPath s p       record p is one of its paths
---   AskedRecord s r n   record r is one of its records, and n is its kind's number
---   movesOf p           the moves that the path p has, as bits: 1 steps, 2 back steps
---   MovesTold s q x     if record q is a path, its moves are x
---   Told s m ways       the array tells so of each record before record m
-use Prim.Native.Nat.{ℕ, _+_, _*_, _<_}
+--   Formed s         the records of a formula, over some number of atoms
+--   Ready s A        the records of a formula over A atoms
+--   waysOf p         what the path p may do, as bits: 1 has steps, 2 has back steps, 4 may stand still
+--   MayAt s q x      if record q is a path, x is what it may do
+--   Known s m ways   the array has what each path before record m may do
+--   Scanned s r ways record r is one of a formula's, and that is known up to it
+use Prim.Native.Nat.{ℕ, _+_, _<_}
 use mathlib.Core.Path.{_≡_}
 use mathlib.Core.Bool.{Bool, false, cond}
 use mathlib.Core.List.{List}
 use lib.ListN.{length, getD}
-use Rattle.meaning.specs.Record.{mostRecords, count, kindAt, kindByte, path, sortOf, ahead, back}
-use Rattle.meaning.specs.Formula.{Path, goes}
+use Rattle.meaning.specs.Record.{mostRecords, count, kindAt, path, sortOf, ahead, back}
+use Rattle.meaning.specs.Formula.{Path, mayStand, goes}
 use Rattle.meaning.specs.Tree.{pathAt}
 use Rattle.meaning.specs.WellFormed.{WellFormed}
 
@@ -23,25 +22,21 @@ pub record Formed (s : List ℕ) : Type 0 where
 abbrev pub Ready : List ℕ → ℕ → Type 0
 Ready s A = WellFormed false s A
 
-pub record AskedPath (s : List ℕ) (p : ℕ) : Type 0 where
-  pub whole : Formed s
-  pub index : p < count s
-  pub sorted : sortOf (kindAt s p) ≡ path
+-- The number with three bits.
+abbrev pub bits : Bool → Bool → Bool → ℕ
+bits x y z = cond x 4 0 + cond y 2 0 + cond z 1 0
 
-pub record AskedRecord (s : List ℕ) (r n : ℕ) : Type 0 where
+unfoldable pub waysOf : Path → ℕ
+waysOf p = bits (mayStand p) (goes back p) (goes ahead p)
+
+abbrev pub MayAt : List ℕ → ℕ → ℕ → Type 0
+MayAt s q x = sortOf (kindAt s q) ≡ path → x ≡ waysOf (pathAt s q)
+
+pub record Known (s : List ℕ) (m : ℕ) (ways : List ℕ) : Type 0 where
+  pub size : length ways ≡ mostRecords
+  pub before : (q : ℕ) → q < m → MayAt s q (getD ways q 0)
+
+pub record Scanned (s : List ℕ) (r : ℕ) (ways : List ℕ) : Type 0 where
   pub whole : Formed s
   pub index : r < count s
-  pub number : n ≡ kindByte s r
-
-abbrev pub bit : Bool → ℕ
-bit b = cond b 1 0
-
-unfoldable pub movesOf : Path → ℕ
-movesOf p = bit (goes back p) * 2 + bit (goes ahead p)
-
-abbrev pub MovesTold : List ℕ → ℕ → ℕ → Type 0
-MovesTold s q x = sortOf (kindAt s q) ≡ path → x ≡ movesOf (pathAt s q)
-
-pub record Told (s : List ℕ) (m : ℕ) (ways : List ℕ) : Type 0 where
-  pub size : length ways ≡ mostRecords
-  pub tells : (q : ℕ) → q < m → MovesTold s q (getD ways q 0)
+  pub known : Known s r ways

@@ -2,14 +2,17 @@
 -- refusal other than 0 is the answer, and at 0 the room alone decides.
 use Prim.Native.Nat.{ℕ, _*_, _<_, _≤_}
 use mathlib.Core.Path.{_≡_, sym, _∙_}
+use mathlib.Core.Bool.{false}
 use mathlib.Core.List.{List, [], _∷_}
-use borrow.Author.Tests.{lt-ltb, le-ltb}
+use native.Mathlib.Omega.{arith}
+use borrow.Author.Tests.{lt-ltb, le-ltb, ltb-false}
 use lib.ListN.{length}
 use Rattle.meaning.specs.Rule.{ruleSize}
 use Rattle.meaning.specs.Translation.{translation}
 use Rattle.meaning.specs.Refusal.{Ground, firstOf, ground10, starredGrounds, translateGrounds}
-use Rattle.meaning.proofs.Accepted.{starred-clear}
-use Rattle.meaning.proofs.First.{clear-skip, found-stop}
+use Rattle.meaning.specs.WellFormed.{WellFormed}
+use Rattle.meaning.proofs.Accepted.{starred-numbered, starred-formed, starred-clear}
+use Rattle.meaning.proofs.First.{clear-none, none-clear, clear-append, numbered-append, clear-skip, found-stop}
 
 module _ (s : List ℕ) (A room : ℕ) where
   abbrev last : List Ground
@@ -34,3 +37,11 @@ module _ (s : List ℕ) (A room : ℕ) where
     pub not-refused : ruleSize * length (translation s A) ≤ room → 0 ≡ whole
     unfolding ground10 firstOf
     not-refused h = sym (roomed ∙ rw (le-ltb room (ruleSize * length (translation s A)) h))
+
+  -- So at 0 the records are a formula's, and there is room for all rules.
+  pub accepted : whole ≡ 0 → WellFormed false s A × (ruleSize * length (translation s A) ≤ room)
+  unfolding translateGrounds ground10
+  accepted e =
+      let numbered = numbered-append (starredGrounds s A) last (starred-numbered s A) (omega arith, tt) in
+      let (formula, fits) = clear-append (starredGrounds s A) last .0 (none-clear _ numbered e) in
+      (starred-formed s A (clear-none _ formula), ltb-false room _ (fits .0))

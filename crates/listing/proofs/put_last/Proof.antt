@@ -1,7 +1,7 @@
 -- `put_last` meets its contract: the number is put after the word.
 use native.Mathlib.Omega.{arith}
 use borrow.Author.Needs.{needs}
-use Rattle.listing.proofs.Putting.{put-more}
+use Rattle.writing.proofs.Appending.{append-more}
 use Rattle.listing.proofs.put_last.Statement.{statement}
 use Rattle.listing.proofs.put_last.Tie as tie
 
@@ -10,7 +10,7 @@ returns c =
     let number = c .before .before in
     let word = number .before .before .before .before in
     let (put, end) = number .put-number .ensures in
-    (put-more (word .put-bytes .ensures) put, omega (arith, word .put-bytes .ensures .place))
+    (append-more (word .put-bytes .ensures) put, omega (arith, word .put-bytes .ensures .place))
 
 pub put-last-spec : {M : Type 1} → statement M
 put-last-spec = tie.close (tie.spec (λ c κs. search needs) (λ c κs. search needs) (λ c. search needs) returns)

@@ -3,9 +3,9 @@ use Prim.Native.Nat.{_≤_}
 use mathlib.Core.Path.{_∙_}
 use native.Mathlib.Omega.{arith}
 use borrow.Author.Needs.{needs}
-use Rattle.listing.specs.Printed.{told}
+use Rattle.listing.specs.Printed.{spelled}
 use Rattle.listing.proofs.Spelling.{decimal-digits, few-digits}
-use Rattle.listing.proofs.Putting.{put-byte, put-more}
+use Rattle.writing.proofs.Appending.{append-one, append-more}
 use Rattle.listing.proofs.put_number.Statement.{statement}
 use Rattle.listing.proofs.put_number.Tie as tie
 
@@ -22,13 +22,13 @@ add-result : tie.Need-add-result
 add-result c = omega (arith, few (c .before .before .before .before .before))
 
 returns : tie.Need-returns
-unfolding told
+unfolding spelled
 returns c =
     let put = c .before .before in
     let d = put .before .before .before in
     let few = few d in
     let digits = d .decimal .ensures .1 .1 ∙ decimal-digits _ _ (d .decimal .ensures .1 .0) in
-    (put-more (rw digits at (put .put-bytes .ensures)) (put-byte _ _ _), omega arith)
+    (append-more (rw digits at (put .put-bytes .ensures)) (append-one _ _ _), omega arith)
 
 pub put-number-spec : {M : Type 1} → statement M
 put-number-spec =

@@ -2,30 +2,23 @@
 use Prim.Native.Nat.{_+_, _*_, _-_, _≤_}
 use mathlib.Core.Path.{_≡_}
 use native.Mathlib.Omega.{arith}
-use lib.ListN.{length}
 use borrow.Author.Needs.{needs}
 use Rattle.meaning.specs.Run.{each}
-use Rattle.listing.specs.Printed.{word, line}
-use Rattle.listing.specs.Put.{Put}
-use Rattle.listing.proofs.Putting.{put-length, put-first, put-next}
+use Rattle.meaning.specs.Rule.{ruleSize}
+use Rattle.listing.specs.Printed.{word, line, mostSpelled}
+use Rattle.writing.specs.Appended.{Appended}
+use Rattle.writing.proofs.Appending.{append-length, append-none, append-next}
 use Rattle.listing.proofs.put_rule.Statement.{statement}
 use Rattle.listing.proofs.put_rule.Tie as tie
 
 abbrev Inv-loop : tie.InvT-loop
-Inv-loop out₀ at words i e₀ j₀ out e j = (j ≤ 6) × Put out₀ at (each j (word words i)) e out × (e ≤ at + 6 * j)
+Inv-loop out₀ at words i e₀ j₀ out e j = (j ≤ ruleSize) × Appended out₀ at (each j (word words i)) e out × (e ≤ at + mostSpelled * j)
 
 abbrev μ-loop : tie.MeasureT-loop
-μ-loop out₀ at words i e₀ j₀ out e j = 6 - j
-
--- The output keeps its length.
-kept : (c : tie.At-loop Inv-loop μ-loop) → length (c .loop .out) ≡ length (c .before .before .before .args .out .now)
-kept c = put-length (c .loop .inv .1)
-
-loop-holds : tie.Need-loop-holds Inv-loop μ-loop
-loop-holds c = (omega arith, put-first _ _ _, omega arith)
+μ-loop out₀ at words i e₀ j₀ out e j = ruleSize - j
 
 put-number-requires : tie.Need-put-number-requires Inv-loop μ-loop
-put-number-requires c κs = (c .before .wide .ensures .1, omega (arith, kept (c .before .before .before .before .before)))
+put-number-requires c κs = (c .before .wide .ensures .1, omega (arith, append-length (c .before .before .before .before .before .loop .inv .1)))
 
 loop-again : tie.Need-loop-again Inv-loop μ-loop
 unfolding word
@@ -34,15 +27,12 @@ loop-again c =
     let wide = put .before .before in
     let loop = wide .before .before .before .before in
     let text = rw (wide .wide .ensures .0, put .before .gap .ensures) at (put .put-number .ensures .0) in
-    (omega arith, put-next _ _ (loop .loop .inv .1) text, omega arith)
-
-same-length : tie.Need-same-length Inv-loop μ-loop
-same-length c = kept (c .before)
+    (omega arith, append-next _ _ (loop .loop .inv .1) text, omega arith)
 
 returns : tie.Need-returns Inv-loop μ-loop
 unfolding line
 returns c =
-    let e : c .before .loop .j ≡ 6 = omega arith in
+    let e : c .before .loop .j ≡ ruleSize = omega arith in
     (rw e at (c .before .loop .inv .1), omega arith)
 
 pub put-rule-spec : {M : Type 1} → statement M
@@ -51,7 +41,7 @@ put-rule-spec =
     (tie.spec
     Inv-loop
     μ-loop
-    loop-holds
+    (λ c. (omega arith, append-none _ _ _, omega arith))
     (λ c. search needs)
     (λ c. search needs)
     (λ c. search needs)
@@ -62,5 +52,5 @@ put-rule-spec =
     (λ c. search needs)
     (λ c. search needs)
     loop-again
-    same-length
+    (λ c. append-length (c .before .loop .inv .1))
     returns)

@@ -2,42 +2,31 @@
 use Prim.Native.Nat.{_*_, _-_, _≤_}
 use mathlib.Core.Path.{_≡_}
 use native.Mathlib.Omega.{arith}
-use lib.ListN.{length}
 use borrow.Author.Needs.{needs}
 use Rattle.meaning.specs.Run.{each}
-use Rattle.listing.specs.Printed.{line}
-use Rattle.listing.specs.Put.{Put}
-use Rattle.listing.proofs.Putting.{put-length, put-first, put-next}
+use Rattle.listing.specs.Printed.{line, mostLine}
+use Rattle.writing.specs.Appended.{Appended}
+use Rattle.writing.proofs.Appending.{append-length, append-none, append-next}
 use Rattle.listing.proofs.put_rules.Statement.{statement}
 use Rattle.listing.proofs.put_rules.Tie as tie
 
 abbrev Inv-loop : tie.InvT-loop
-Inv-loop out₀ words n at₀ i₀ out at i = (i ≤ n) × Put out₀ 0 (each i (line words)) at out × (at ≤ 36 * i)
+Inv-loop out₀ words n at₀ i₀ out at i = (i ≤ n) × Appended out₀ 0 (each i (line words)) at out × (at ≤ mostLine * i)
 
 abbrev μ-loop : tie.MeasureT-loop
 μ-loop out₀ words n at₀ i₀ out at i = n - i
-
--- The output keeps its length.
-kept : (c : tie.At-loop Inv-loop μ-loop) → length (c .loop .out) ≡ length (c .before .before .before .args .out .now)
-kept c = put-length (c .loop .inv .1)
-
-loop-holds : tie.Need-loop-holds Inv-loop μ-loop
-loop-holds c = (omega arith, put-first _ _ _, omega arith)
 
 put-rule-requires : tie.Need-put-rule-requires Inv-loop μ-loop
 put-rule-requires c κs =
     let loop = c .before .before in
     let start = loop .before .before .before in
-    (omega (arith, start .pre), omega (arith, kept loop, start .pre))
+    (omega (arith, start .pre), omega (arith, append-length (loop .loop .inv .1), start .pre))
 
 loop-again : tie.Need-loop-again Inv-loop μ-loop
 loop-again c =
     let put = c .before .before in
     let loop = put .before .before .before in
-    (omega arith, put-next _ _ (loop .loop .inv .1) (put .put-rule .ensures .0), omega arith)
-
-same-length : tie.Need-same-length Inv-loop μ-loop
-same-length c = kept (c .before)
+    (omega arith, append-next _ _ (loop .loop .inv .1) (put .put-rule .ensures .0), omega arith)
 
 returns : tie.Need-returns Inv-loop μ-loop
 returns c =
@@ -50,10 +39,10 @@ put-rules-spec =
     (tie.spec
     Inv-loop
     μ-loop
-    loop-holds
+    (λ c. (omega arith, append-none _ _ _, omega arith))
     put-rule-requires
     (λ c. search needs)
     (λ c. search needs)
     loop-again
-    same-length
+    (λ c. append-length (c .before .loop .inv .1))
     returns)

@@ -4,14 +4,15 @@ use mathlib.Core.Path.{_≡_}
 use native.Mathlib.Omega.{arith}
 use lib.ListN.{length}
 use borrow.Author.Needs.{needs}
-use Rattle.listing.proofs.Putting.{put-length, put-more, put-written}
+use Rattle.meaning.specs.Refusal.{mostRules}
+use Rattle.writing.proofs.Appending.{append-length, append-more, append-written}
 use Rattle.listing.proofs.Answered.{printed-refused, few-rules, printed-rules}
 use Rattle.listing.proofs.text.Statement.{statement}
 use Rattle.listing.proofs.text.Tie as tie
 
 -- ---- with no refusal
--- There are at most 1,021 rules.
-few : (c : tie.Else1) → c .before .before .before .translate .result .count ≤ 1021
+-- There are not too many rules.
+few : (c : tie.Else1) → c .before .before .before .translate .result .count ≤ mostRules
 few c =
     let t = c .before .before .before .translate .ensures in
     few-rules _ (t .0) (t .1 .0) (c .if1 .left)
@@ -19,7 +20,7 @@ few c =
 -- The output keeps its length.
 kept : (c : tie.After-put-rules)
     → length (c .put-rules .last .0) ≡ length (c .before .before .before .before .before .before .before .before .before .args .out .now)
-kept c = put-length (c .put-rules .ensures .0)
+kept c = append-length (c .put-rules .ensures .0)
 
 -- ---- the needs
 returns : tie.Need-returns
@@ -27,7 +28,7 @@ returns c =
     let t = c .before .before .before .before .before .before .before in
     let e = printed-refused _ (t .translate .ensures .0) (c .before .before .before .before .if1 .taken) in
     let (put, end) = c .put-last .ensures in
-    put-written (rw (← e) at put) (omega arith)
+    append-written (rw (← e) at put) (omega arith)
 
 put-rules-requires : tie.Need-put-rules-requires
 put-rules-requires c κs =
@@ -48,7 +49,7 @@ returns-2 c =
     let e = printed-rules _ (t .0) (t .1 .0) (else .if1 .left) (t .1 .1) in
     let few = few else in
     let (last, end) = c .put-last2 .ensures in
-    put-written (rw (← e) at (put-more (put .put-rules .ensures .0) last)) (omega arith)
+    append-written (rw (← e) at (append-more (put .put-rules .ensures .0) last)) (omega arith)
 
 pub text-spec : {M : Type 1} → statement M
 text-spec =
