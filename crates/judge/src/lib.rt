@@ -1,16 +1,17 @@
 // Judging rules over a filled trace.
 mod form;
 mod literal;
+mod rule;
 
 ghost use mathlib.Core.Path.{_≡_};
 ghost use mathlib.Core.Bool.{not};
-ghost use Prim.Native.Nat.{_<_};
 ghost use Rattle.meaning.specs.Run.{cellOf};
-ghost use Rattle.meaning.specs.Rule.{ruleAt, holds};
-ghost use Rattle.meaning.specs.Judge.{ruleCount, verdict};
+ghost use Rattle.meaning.specs.Rule.{holds};
+ghost use Rattle.meaning.specs.Judge.{verdict};
 ghost use Rattle.meaning.specs.Refusal.{firstOf, judgeGrounds};
 ghost use Rattle.meaning.specs.Service.{told, judgeAnswer};
 ghost use Rattle.judge.specs.Filled.{Filled, Lookable, Gives, six};
+use crate::rule::Rule;
 use rules::RULE_SIZE;
 
 // A refusal, or whether all rules hold, and else the first rule that fails and its first failing instant.
@@ -20,16 +21,6 @@ pub struct Judged {
     pub holds: u8,
     pub rule: u64,
     pub instant: u64,
-}
-
-// The words of a rule.
-struct Rule {
-    place: u16,
-    body1: u16,
-    body2: u16,
-    head1: u16,
-    head2: u16,
-    head3: u16,
 }
 
 // The first refusal that applies; or yes; or the first rule that fails, and its first failing instant.
@@ -74,7 +65,7 @@ fn first_failure(rules: &[u16], width: usize, l: usize, cells: &[u8]) -> Judged
     let mut i: usize = 0;
     let mut k: usize = 0;
     'rules: while i < n {
-        let rule = rule_at(rules, i);
+        let rule = rule::rule_at(rules, i);
         let end = literal::end_of(l, rule.place);
         k = literal::start_of(l, rule.place);
         while k < end {
@@ -99,22 +90,6 @@ fn first_failure(rules: &[u16], width: usize, l: usize, cells: &[u8]) -> Judged
             rule: 0,
             instant: 0,
         }
-    }
-}
-
-// The six words of rule i.
-fn rule_at(rules: &[u16], i: usize) -> Rule
-    requires { ⌜ i < ruleCount (now rules) ⌝ }
-    ensures { λ ρ. ⌜ six (ρ .place) (ρ .body1) (ρ .body2) (ρ .head1) (ρ .head2) (ρ .head3) ≡ ruleAt (now (rules .entry)) i ⌝ }
-{
-    let at = RULE_SIZE * i;
-    Rule {
-        place: rules[at],
-        body1: rules[at + 1],
-        body2: rules[at + 2],
-        head1: rules[at + 3],
-        head2: rules[at + 4],
-        head3: rules[at + 5],
     }
 }
 

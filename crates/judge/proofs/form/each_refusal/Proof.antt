@@ -22,15 +22,16 @@ loop-holds c = (search needs, scan-none _)
 returns : tie.Need-returns Inv-loop μ-loop
 unfolding firstOf ground13
 returns c =
-    let bad = sym (c .before .is-bad .ensures) ∙ c .if1 .taken in
-    scan-found _ _ _ (omega arith) (c .before .before .before .loop .inv .1) (simp bad) (λ z. omega arith)
+    let test = c .before in
+    let bad = rw (test .before .rule-at .ensures) at (sym (test .is-bad .ensures) ∙ c .if1 .taken) in
+    scan-found _ _ _ (omega arith) (test .before .before .before .loop .inv .1) (simp bad) (λ z. omega arith)
 
 loop-again : tie.Need-loop-again Inv-loop μ-loop
 unfolding ground13
-loop-again c = (
-  omega arith,
-  scan-more _ _ (c .before .before .before .loop .inv .1) (sym (c .before .is-bad .ensures) ∙ c .if1 .left, tt),
-)
+loop-again c =
+    let test = c .before in
+    let good = rw (test .before .rule-at .ensures) at (sym (test .is-bad .ensures) ∙ c .if1 .left) in
+    (omega arith, scan-more _ _ (test .before .before .before .loop .inv .1) (good, tt))
 
 returns-2 : tie.Need-returns-2 Inv-loop μ-loop
 returns-2 c = scan-done _ _ _ (omega arith) (c .before .loop .inv .1)
@@ -42,6 +43,7 @@ each-refusal-spec =
     Inv-loop
     μ-loop
     loop-holds
+    (λ c κs. search needs)
     (λ c κs. search needs)
     returns
     (λ c. search needs)

@@ -27,7 +27,8 @@ returns-3 c =
       lt-leb _ _ (c .before .before .if1 .left),
       sym (c .before .is-previous .ensures) ∙ c .if2 .left,
     )
+    (c .if2 .left)
 
 pub is-bad-literal-spec : {M : Type 1} → statement M
 is-bad-literal-spec =
-    tie.close (tie.spec (λ c. search needs) (λ c κs. search needs) returns (λ c κs. search needs) returns-2 returns-3)
+    tie.close (tie.spec (λ c. search needs) (λ c κs. search needs) (λ c κs. search needs) returns returns-2 returns-3)

@@ -1,9 +1,9 @@
--- `rule_at` meets its contract: the six words stand one after the other.
+-- `rule::rule_at` meets its contract: the six words stand one after the other.
 use native.Mathlib.Nat.{add-zero}
 use Rattle.meaning.specs.Rule.{ruleAt}
 use borrow.Author.Needs.{needs}
-use Rattle.judge.proofs.rule_at.Statement.{statement}
-use Rattle.judge.proofs.rule_at.Tie as tie
+use Rattle.judge.proofs.rule.rule_at.Statement.{statement}
+use Rattle.judge.proofs.rule.rule_at.Tie as tie
 
 returns : tie.Need-returns
 unfolding ruleAt
