@@ -9,6 +9,7 @@ ghost use Rattle.meaning.specs.Refusal.{firstOf, ground13-length, ground13, bad
 use crate::literal;
 use crate::rule;
 use crate::rule::Rule;
+use rules::FIRST_COLUMN;
 use rules::LAST;
 use rules::LATER;
 use rules::MOST_RULES;
@@ -61,5 +62,6 @@ fn is_bad_literal(width: usize, place: u16, word: u16) -> bool
     requires { ⌜ width ≤ mostColumns ⌝ }
     ensures { λ b. ⌜ b ≡ badLiteral width place word ⌝ }
 {
-    2 + width <= literal::symbol(word) || literal::is_previous(word) && place != LATER
+    FIRST_COLUMN as usize + width <= literal::symbol(word) as usize
+        || literal::is_previous(word) && place != LATER
 }

@@ -43,6 +43,7 @@ symbol-at-spec =
     returns-2
     mul-result
     (λ c. search needs)
+    (λ c. search needs)
     add-result
     shared-slice-read-result
     returns-3)
