@@ -1,75 +1,67 @@
--- What the expander answers. Its grounds are those that its first refusal looks at, and after them 14 and 10, which look at the size of
--- the whole tree: so a refusal other than 0 is the answer, and at 0 the records are a tree and its size decides.
-use Prim.Native.Nat.{ℕ, pred, _*_, _<_, _≤_}
+-- What the expander answers. Its grounds are those of the records, and after them 14 and 10, which look at the size of the whole tree: so
+-- a refusal of the records is the answer, and where there is none they are a tree and its size decides.
+use Prim.Native.Nat.{ℕ, pred, _*_, _<_, _≤_, min}
 use mathlib.Core.Path.{_≡_, sym, _∙_}
 use mathlib.Core.Bool.{true}
-use mathlib.Core.List.{List, [], _∷_}
+use mathlib.Core.Logic.{⊎-elim}
+use mathlib.Core.List.{List}
 use native.Mathlib.Omega.{arith}
 use lib.ListN.{length, take, drop}
 use lib.Seq.{sets, take-append-seam}
-use borrow.Author.Tests.{lt-ltb, le-ltb, eq-eqb, ne-eqb}
+use borrow.Author.Tests.{lt-ltb, ltb-false, eq-eqb, ne-eqb}
 use Rattle.meaning.specs.Run.{written}
 use Rattle.meaning.specs.Record.{count, recordSize, mostRecords, formula}
 use Rattle.meaning.specs.Tree.{formAt, treeAt, postorder}
-use Rattle.meaning.specs.Refusal.{Ground, firstOf, ground10, ground14, formulaGrounds, expandGrounds, wholeForm}
-use Rattle.meaning.specs.Service.{expandAnswer, expandAfter}
+use Rattle.meaning.specs.Refusal.{firstOf, ground10, ground14, formulaGrounds, expandGrounds, wholeForm}
+use Rattle.meaning.specs.Service.{accepted, expandAnswer, expandAfter}
+use Rattle.meaning.proofs.Bounds.{le-or-lt}
 use Rattle.meaning.specs.WellFormed.{WellFormed}
 use Rattle.meaning.proofs.Accepted.{clear-well-formed}
-use Rattle.meaning.proofs.First.{clear-skip, found-stop}
+use Rattle.meaning.proofs.First.{none-clear, clear-skip, found-stop}
 use Rattle.meaning.proofs.Stores.{sets-written}
 use Rattle.expand.specs.Steps.{treeFrom, treeSize}
-use Rattle.expand.specs.Asking.{Asked, bytesAt, sizeAt}
+use Rattle.expand.specs.Asking.{Asked, bytesAt, sizeAt, many, sizeGrounds, Expanded}
 use Rattle.expand.proofs.Sized.{tree-length}
 
-module _ (s : List ℕ) (A : ℕ) where
-  abbrev early : List Ground
-  early = formulaGrounds true s A
+-- ---- the size
+-- Numbers of records that stop at 256 are refused as the numbers themselves are.
+pub capped : (n room : ℕ) → firstOf (sizeGrounds (min many n) room) ≡ firstOf (sizeGrounds n room)
+unfolding ground14 firstOf
+capped n room =
+    ⊎-elim
+    (λ (few : n ≤ mostRecords). let e : min many n ≡ n = omega arith in rw e)
+    (λ (more : mostRecords < n). rw (lt-ltb mostRecords (min many n) (omega arith), lt-ltb mostRecords n more))
+    (le-or-lt n mostRecords)
 
-  module _ (room : ℕ) where
-    abbrev late : List Ground
-    late = ground14 (wholeForm s) ∷ ground10 (recordSize * wholeForm s) room ∷ []
+pub size-fits : (n room : ℕ) → firstOf (sizeGrounds n room) ≡ 0 → (n ≤ mostRecords) × (recordSize * n ≤ room)
+unfolding ground14 ground10
+size-fits n room e =
+    let c = none-clear (sizeGrounds n room) (omega arith, (omega arith, tt)) e in
+    (ltb-false mostRecords n (c .0), ltb-false room (recordSize * n) (c .1 .0))
 
-    abbrev whole : ℕ
-    whole = firstOf (expandGrounds s A room)
+module _ (s out : List ℕ) {x : ℕ} (e : x ≡ firstOf (sizeGrounds (wholeForm s) (length out))) where
+  pub refused : (x ≡ 0 → ⊥) → Expanded s out x 0 out
+  refused f = let n = ne-eqb x 0 f in record { sized = e; counted = rw n; stored = rw n }
 
-    pub refused : {x : ℕ} → x ≡ firstOf early → (x ≡ 0 → ⊥) → x ≡ whole
-    unfolding expandGrounds
-    refused e n = e ∙ sym (found-stop early late (λ z. n (e ∙ z)))
-
-    module _ (w : WellFormed true s A) where
-      sized : whole ≡ firstOf late
-      unfolding expandGrounds
-      sized = clear-skip early late (clear-well-formed true s A .1 w)
-
-      pub refused-many : mostRecords < wholeForm s → 14 ≡ whole
-      unfolding ground14 firstOf
-      refused-many h = sym (sized ∙ rw (lt-ltb mostRecords (wholeForm s) h))
-
-      module _ (few : wholeForm s ≤ mostRecords) where
-        pub refused-room : room < recordSize * wholeForm s → 10 ≡ whole
-        unfolding ground14 ground10 firstOf
-        refused-room h =
-            sym (sized ∙ rw (le-ltb mostRecords (wholeForm s) few, lt-ltb room (recordSize * wholeForm s) h))
-
-        pub not-refused : recordSize * wholeForm s ≤ room → 0 ≡ whole
-        unfolding ground14 ground10 firstOf
-        not-refused h =
-            sym (sized ∙ rw (le-ltb mostRecords (wholeForm s) few, le-ltb room (recordSize * wholeForm s) h))
+  pub written-whole : {n : ℕ} {new : List ℕ} → x ≡ 0 → n ≡ wholeForm s → new ≡ written (postorder (formAt s (pred (count s)))) out
+      → Expanded s out x n new
+  written-whole f size bytes = let z = eq-eqb x 0 f in record { sized = e; counted = rw z size; stored = rw z bytes }
 
 -- ---- the whole answer
-module _ (s : List ℕ) (A : ℕ) (out : List ℕ) where
-  abbrev Answers : ℕ → ℕ → List ℕ → Type 0
-  Answers x n new =
-      (x ≡ expandAnswer s A (length out) .refusal) × ((n ≡ expandAnswer s A (length out) .count) × (new ≡ expandAfter s A out))
+module _ (s : List ℕ) (A room : ℕ) where
+  pub whole-sized : WellFormed true s A → firstOf (sizeGrounds (wholeForm s) room) ≡ firstOf (expandGrounds s A room)
+  unfolding expandGrounds
+  whole-sized w = sym (clear-skip (formulaGrounds true s A) _ (clear-well-formed true s A .1 w))
 
-  pub answers-refusal : {x : ℕ} → x ≡ firstOf (expandGrounds s A (length out)) → (x ≡ 0 → ⊥) → Answers x 0 out
-  unfolding expandAnswer expandAfter
-  answers-refusal e f = let n = ne-eqb _ 0 (λ z. f (e ∙ z)) in (e, (rw n, rw n))
+  pub whole-refused : {x : ℕ} → x ≡ firstOf (formulaGrounds true s A) → (x ≡ 0 → ⊥) → x ≡ firstOf (expandGrounds s A room)
+  unfolding expandGrounds
+  whole-refused e n = e ∙ sym (found-stop (formulaGrounds true s A) _ (λ z. n (e ∙ z)))
 
-  pub answers-tree : {n : ℕ} {new : List ℕ} → 0 ≡ firstOf (expandGrounds s A (length out)) → n ≡ wholeForm s
-      → new ≡ written (postorder (formAt s (pred (count s)))) out → Answers 0 n new
-  unfolding expandAnswer expandAfter
-  answers-tree e size bytes = let n = eq-eqb _ 0 (sym e) in (e, (rw n size, rw n bytes))
+pub answers : (s : List ℕ) (A : ℕ) (out : List ℕ) {x n : ℕ} {new : List ℕ} → x ≡ firstOf (expandGrounds s A (length out)) → n ≡ accepted x (wholeForm s) 0
+    → new ≡ accepted x (written (postorder (formAt s (pred (count s)))) out) out
+    → (x ≡ expandAnswer s A (length out) .refusal) × ((n ≡ expandAnswer s A (length out) .count) × (new ≡ expandAfter s A out))
+unfolding expandAnswer expandAfter
+answers s A out e size bytes = (e, (rw e at size, rw e at bytes))
 
 -- ---- the last record is the whole formula
 module _ {s : List ℕ} {A : ℕ} (w : WellFormed true s A) where

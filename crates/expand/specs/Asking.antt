@@ -4,15 +4,21 @@
 --   stepBytes s r d under n      those of its step d
 --   stepCount s r d              how many these are
 --   fits kind d                  a record of the kind may have the step d
+--   sizeGrounds n room           what an expansion of n records may be refused for, by the room that it has
+--   Expanded s out x n new       the answer for records s that are a formula: refusal x, count n, and the output `new`
 --   Wrote bytes n size old e new    e is the number after so many records from number n on; unless it is too high, their bytes were written
-use Prim.Native.Nat.{ℕ, _+_, _*_, _<_, _≤_, min}
+use Prim.Native.Nat.{ℕ, pred, _+_, _*_, _<_, _≤_, min}
 use mathlib.Core.Path.{_≡_}
 use mathlib.Core.Bool.{Bool, true, false, cond, _&&_}
-use mathlib.Core.List.{List}
+use mathlib.Core.List.{List, [], _∷_}
+use lib.ListN.{length}
 use lib.Dec.{eqb, ltb}
 use lib.Seq.{sets}
 use Rattle.meaning.specs.Record.{Kind, Use, unused, atomNumber, child, useA, recordSize, mostRecords, count, kindAt, fieldA, fieldB, sortOf}
-use Rattle.meaning.specs.Tree.{treeAt}
+use Rattle.meaning.specs.Run.{written}
+use Rattle.meaning.specs.Tree.{treeAt, formAt, postorder}
+use Rattle.meaning.specs.Refusal.{Ground, firstOf, ground10, ground14, wholeForm}
+use Rattle.meaning.specs.Service.{accepted}
 use Rattle.meaning.specs.WellFormed.{WellFormed}
 use Rattle.expand.specs.Steps.{atomStep, partA, byte, treeFrom, treeSize, partUse, stepFrom, stepSize}
 
@@ -56,3 +62,12 @@ many = 256
 pub record Wrote (bytes : List ℕ) (n size : ℕ) (old : List ℕ) (e : ℕ) (new : List ℕ) : Type 0 where
   pub next : e ≡ min many (n + size)
   pub whole : e ≤ mostRecords → new ≡ sets old (recordSize * n) bytes
+
+-- ---- the answer
+abbrev pub sizeGrounds : ℕ → ℕ → List Ground
+sizeGrounds n room = ground14 n ∷ ground10 (recordSize * n) room ∷ []
+
+pub record Expanded (s out : List ℕ) (refusal n : ℕ) (new : List ℕ) : Type 0 where
+  pub sized : refusal ≡ firstOf (sizeGrounds (wholeForm s) (length out))
+  pub counted : n ≡ accepted refusal (wholeForm s) 0
+  pub stored : new ≡ accepted refusal (written (postorder (formAt s (pred (count s)))) out) out

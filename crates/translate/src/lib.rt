@@ -16,16 +16,10 @@ ghost use Rattle.paths.specs.Asking.{Formed, Ready};
 ghost use Rattle.translate.specs.Contexts.{AllHanded, Moded};
 ghost use Rattle.translate.specs.Rows.{Rowed, Small, Put, rulesIn, ruleOf};
 use records::layout;
+use refusals::Counted;
 use row::Row;
 use row::Rows;
 use rules::RULE_SIZE;
-
-// The refusal, or 0 and the number of rules.
-#[repr(C)]
-pub struct Counted {
-    pub refusal: u8,
-    pub count: u64,
-}
 
 // The first refusal that applies; or the rules of the formula, six words each.
 pub fn translate(records: &[u8], atoms: u64, out: &mut [u16]) -> Counted
