@@ -13,7 +13,7 @@ use lib.Seq.{getD-set-same, getD-set-other}
 use Rattle.meaning.specs.Record.{Use, unused, atomNumber, child, count, mostRecords, names, uses, placesIn}
 use Rattle.meaning.specs.Refusal.{firstOf, ground7}
 use Rattle.meaning.proofs.First.{Clear}
-use Rattle.records.specs.Code.{useOf}
+use Rattle.shapes.specs.Uses.{useOf}
 use Rattle.checks.specs.Places.{fieldGrounds, Places, FieldTaken}
 use Rattle.checks.proofs.Fields.{Read, use-again}
 

@@ -9,7 +9,7 @@ use lib.Dec.{leb, eqb}
 use native.Mathlib.Omega.{arith}
 use Rattle.meaning.specs.Record.{Sort, Use, formula, path, unused, atomNumber, child, kindAt, sortOf, useA, useB, fieldA, fieldB}
 use Rattle.meaning.specs.Refusal.{firstOf, stray, late, beyond, misfit, differ}
-use Rattle.records.specs.Code.{sortCode, useCode, useOf}
+use Rattle.shapes.specs.Uses.{sortCode, useCode, useOf}
 use Rattle.checks.specs.Places.{fieldGrounds}
 
 pub use-again : (u : Use) → useOf (useCode u) ≡ u

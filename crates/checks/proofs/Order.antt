@@ -10,7 +10,7 @@ use borrow.Author.Tests.{ne-eqb}
 use lib.Dec.{eqb}
 use Rattle.meaning.specs.Record.{kindAt, zeroByte, fieldA, fieldB, useA, useB, known}
 use Rattle.meaning.specs.Refusal.{firstOf, recordGrounds, ground2, ground3, ground4, ground5, ground6}
-use Rattle.records.specs.Code.{useOf}
+use Rattle.shapes.specs.Uses.{useOf}
 use Rattle.checks.specs.Places.{fieldGrounds}
 use Rattle.checks.proofs.Fields.{Read, use-again}
 

@@ -12,7 +12,7 @@ use Rattle.meaning.specs.Run.{each}
 use Rattle.meaning.specs.Record.{formula, sortOf, kindOf, kindByte, kindAt, count}
 use Rattle.meaning.specs.Refusal.{firstOf, ground2, ground3, ground4, ground5, ground6, ground6-last, ground7, recordGrounds, treeGrounds}
 use Rattle.meaning.proofs.First.{Numbered, none-clear, clear-skip, found-stop, numbered-each}
-use Rattle.records.specs.Code.{sortCode}
+use Rattle.shapes.specs.Uses.{sortCode}
 use Rattle.checks.proofs.Fields.{differ-code}
 
 pub record-numbered : (full : Bool) (s : List ℕ) (A r : ℕ) → Numbered (recordGrounds full s A r)

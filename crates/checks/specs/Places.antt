@@ -10,7 +10,7 @@ use mathlib.Core.List.{List, [], _∷_}
 use lib.ListN.{length, getD}
 use Rattle.meaning.specs.Record.{Use, mostRecords, names, placesIn}
 use Rattle.meaning.specs.Refusal.{Ground, ground, firstOf, stray, late, beyond, misfit}
-use Rattle.records.specs.Code.{useOf}
+use Rattle.shapes.specs.Uses.{useOf}
 
 unfoldable pub fieldGrounds : List ℕ → ℕ → ℕ → Use → ℕ → List Ground
 fieldGrounds s A r held v =

@@ -1,11 +1,11 @@
--- `records::shape::takes` meets its contract: kinds to 10 are the core, those from 32 to 47 the shorthands, and all others unknown.
+-- `takes` meets its contract: kinds to 10 are the core, those from 32 to 47 the shorthands, and all others unknown.
 use mathlib.Core.Path.{refl}
 use mathlib.Core.Bool.{true, false}
 use native.Mathlib.Omega.{arith}
 use Rattle.meaning.specs.Record.{kinds, known}
 use Rattle.records.proofs.Ranges.{stretch, onward}
-use Rattle.records.proofs.shape.takes.Statement.{statement}
-use Rattle.records.proofs.shape.takes.Tie as tie
+use Rattle.shapes.proofs.takes.Statement.{statement}
+use Rattle.shapes.proofs.takes.Tie as tie
 
 pub takes-spec : {M : Type 1} → statement M
 unfolding kinds known

@@ -1,8 +1,8 @@
 // What a record's kind says: its sort, what its fields hold, and which services take it.
 ghost use mathlib.Core.Path.{_≡_};
 ghost use Rattle.meaning.specs.Record.{kindOf, sortOf, useA, useB, known};
-ghost use Rattle.records.specs.Code.{sortCode, useCode};
-use crate::kind;
+ghost use Rattle.shapes.specs.Uses.{sortCode, useCode};
+use records::kind;
 
 // What a field holds. The last two number the sorts of records too.
 pub const UNUSED: u8 = 0;
