@@ -1,8 +1,8 @@
 -- One record's first refusal by those of its fields. The conditions are numbered in their order, so of two fields' refusals
 -- the one with the lesser number comes first: the conditions of both, number by number, are gone through from the last.
-use Prim.Native.Nat.{ℕ, min, _<_}
-use mathlib.Core.Path.{_≡_, refl, _∙_}
-use mathlib.Core.Bool.{Bool, true, false, cond, not, _||_}
+use Prim.Native.Nat.{ℕ, zero, suc, _<_}
+use mathlib.Core.Path.{_≡_, refl}
+use mathlib.Core.Bool.{Bool, true, false, cond, not, _||_, or-assoc}
 use mathlib.Core.List.{List}
 use mathlib.Core.Logic.{_⊎_, inl, inr}
 use native.Mathlib.Omega.{arith}
@@ -11,15 +11,14 @@ use lib.Dec.{eqb}
 use Rattle.meaning.specs.Record.{kindAt, zeroByte, fieldA, fieldB, useA, useB, known}
 use Rattle.meaning.specs.Refusal.{firstOf, recordGrounds, ground2, ground3, ground4, ground5, ground6}
 use Rattle.shapes.specs.Uses.{useOf}
-use Rattle.checks.specs.Places.{fieldGrounds}
+use Rattle.checks.specs.Places.{fieldGrounds, fieldsGrounds, sooner}
 use Rattle.checks.proofs.Fields.{Read, use-again}
 
--- 0 says that there is none.
-abbrev pub sooner : ℕ → ℕ → ℕ
-sooner x y = cond (eqb x 0) y (cond (eqb y 0) x (min x y))
-
-pub lesser : {x y z : ℕ} → z ≡ sooner x y → (x ≡ 0 → ⊥) → (y ≡ 0 → ⊥) → z ≡ min x y
-lesser e p q = e ∙ rw (ne-eqb _ 0 p, ne-eqb _ 0 q)
+pub none-sooner : (x y : ℕ) → sooner x y ≡ 0 → (x ≡ 0) × (y ≡ 0)
+none-sooner zero y e = (refl, e)
+none-sooner (suc x) zero e = let h = rw (ne-eqb (suc x) 0 (λ z. omega arith)) at e in absurd (omega arith)
+none-sooner (suc x) (suc y) e =
+    let h = rw (ne-eqb (suc x) 0 (λ z. omega arith), ne-eqb (suc y) 0 (λ z. omega arith)) at e in absurd (omega arith)
 
 -- None, or one that comes after n.
 abbrev Past : ℕ → ℕ → Type 0
@@ -58,18 +57,16 @@ cond-or : (a b : Bool) (n m : ℕ) → cond (a || b) n m ≡ cond a n (cond b n 
 cond-or true b n m = refl
 cond-or false b n m = refl
 
-pub by-fields : (full : Bool) (s : List ℕ) (A r : ℕ)
+pub by-record : (full : Bool) (s : List ℕ) (A r : ℕ)
     → firstOf (recordGrounds full s A r)
-    ≡ cond (not (known full (kindAt s r))) 2
-    (cond (not (eqb (zeroByte s r) 0)) 3
-    (sooner (firstOf (fieldGrounds s A r (useA (kindAt s r)) (fieldA s r))) (firstOf (fieldGrounds s A r (useB (kindAt s r)) (fieldB s r)))))
-unfolding firstOf fieldGrounds recordGrounds ground2 ground3 ground4 ground5 ground6
-by-fields full s A r = simp (cond-or, woven)
+    ≡ cond (not (known full (kindAt s r))) 2 (cond (not (eqb (zeroByte s r) 0)) 3 (firstOf (fieldsGrounds s A r)))
+unfolding firstOf fieldsGrounds recordGrounds ground2 ground3
+by-record full s A r = simp (or-assoc, cond-or)
 
 -- The fields as the code reads them.
-pub as-read : (full : Bool) (s : List ℕ) (A r : ℕ) {ua ub a b x y : ℕ} → Read s r ua ub a b
-    → not (known full (kindAt s r)) ≡ false → zeroByte s r ≡ 0
+pub by-fields : (s : List ℕ) (A r : ℕ) {ua ub a b x y : ℕ} → Read s r ua ub a b
     → x ≡ firstOf (fieldGrounds s A r (useOf ua) a) → y ≡ firstOf (fieldGrounds s A r (useOf ub) b)
-    → firstOf (recordGrounds full s A r) ≡ sooner x y
-as-read full s A r read k z ex ey =
-    rw (by-fields, k, z) (simp (ex, ey, read .use-a, read .use-b, read .at-a, read .at-b, use-again))
+    → sooner x y ≡ firstOf (fieldsGrounds s A r)
+unfolding firstOf fieldGrounds fieldsGrounds ground4 ground5 ground6
+by-fields s A r read ex ey =
+    simp (ex, ey, read .use-a, read .use-b, read .at-a, read .at-b, use-again, cond-or, woven)

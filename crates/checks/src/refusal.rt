@@ -5,9 +5,9 @@ ghost use mathlib.Core.List.{[], _∷_};
 ghost use Prim.Native.Nat.{pred, min, _+_, _<_, _≤_};
 ghost use lib.ListN.{length};
 ghost use Rattle.meaning.specs.Run.{each};
-ghost use Rattle.meaning.specs.Record.{count, mostRecords};
+ghost use Rattle.meaning.specs.Record.{count, mostRecords, kindByte};
 ghost use Rattle.meaning.specs.Refusal.{firstOf, ground1, ground7, ground8, recordGrounds, treeGrounds, formulaGrounds};
-ghost use Rattle.checks.specs.Places.{Places, FieldTaken, Taken};
+ghost use Rattle.checks.specs.Places.{Places, FieldTaken, Taken, sooner, fieldsGrounds};
 use records::layout;
 
 // In how many places each record is the child; more than one is as good as two.
@@ -78,7 +78,47 @@ fn field_refusal(s: &[u8], atoms: u64, counts: &mut Counts, r: usize, u: u8, v: 
 }
 
 // ---- one record
-// The first of 2 to 6 that applies to record r; of the fields' refusals that is the lesser. If none does, its children are counted.
+// Of two refusals the one with the lesser number; 0 is none.
+fn sooner(x: u8, y: u8) -> u8
+    ensures { λ z. ⌜ z ≡ sooner x y ⌝ }
+{
+    if x == refusals::ACCEPTED {
+        return y;
+    }
+    if y == refusals::ACCEPTED {
+        return x;
+    }
+    if x < y {
+        return x;
+    }
+    y
+}
+
+// The first of 3 to 6 that applies to a field of record r. If none does, its children are counted.
+fn fields_refusal(s: &[u8], atoms: u64, counts: &mut Counts, r: usize, kind: u8) -> u8
+    requires { ⌜ (r < count (now s)) × (count (now s) ≤ mostRecords) × (kind ≡ kindByte (now s) r) × Places (now s) r (now counts) ⌝ }
+    ensures { λ x. ⌜ Taken (fieldsGrounds (now (s .entry)) atoms r) (now (s .entry)) (r + 1) (now (counts .exit)) x ⌝ }
+{
+    let a = field_refusal(
+        s,
+        atoms,
+        counts,
+        r,
+        shapes::use_a(kind),
+        layout::field_a(s, r),
+    );
+    let b = field_refusal(
+        s,
+        atoms,
+        counts,
+        r,
+        shapes::use_b(kind),
+        layout::field_b(s, r),
+    );
+    sooner(a, b)
+}
+
+// The first of 2 to 6 that applies to record r. If none does, its children are counted.
 fn record_refusal(s: &[u8], full: bool, atoms: u64, counts: &mut Counts, r: usize) -> u8
     requires { ⌜ (r < count (now s)) × (count (now s) ≤ mostRecords) × Places (now s) r (now counts) ⌝ }
     ensures { λ x. ⌜ Taken (recordGrounds full (now (s .entry)) atoms r) (now (s .entry)) (r + 1) (now (counts .exit)) x ⌝ }
@@ -90,22 +130,7 @@ fn record_refusal(s: &[u8], full: bool, atoms: u64, counts: &mut Counts, r: usiz
     if layout::zero_at(s, r) != 0 {
         return refusals::NOT_ZERO;
     }
-    let ua = shapes::use_a(kind);
-    let ub = shapes::use_b(kind);
-    let a = layout::field_a(s, r);
-    let b = layout::field_b(s, r);
-    let x = field_refusal(s, atoms, counts, r, ua, a);
-    let y = field_refusal(s, atoms, counts, r, ub, b);
-    if x == refusals::ACCEPTED {
-        return y;
-    }
-    if y == refusals::ACCEPTED {
-        return x;
-    }
-    if x < y {
-        return x;
-    }
-    y
+    fields_refusal(s, atoms, counts, r, kind)
 }
 
 // ---- all records

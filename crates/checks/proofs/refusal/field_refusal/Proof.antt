@@ -1,4 +1,4 @@
--- `fault::field_refusal` meets its contract: by the field's number one or two conditions are left to ask, and only a child
+-- `refusal::field_refusal` meets its contract: by the field's number one or two conditions are left to ask, and only a child
 -- that none of them refuses is counted.
 use mathlib.Core.Path.{sym, _∙_}
 use native.Mathlib.Omega.{arith}

@@ -1,4 +1,4 @@
--- `records::fault::formula_refusal` meets its contract: the length decides, then the number of atoms, then the records as a tree.
+-- `refusal::formula_refusal` meets its contract: the length decides, then the number of atoms, then the records as a tree.
 use mathlib.Core.Path.{_≡_, sym, _∙_}
 use mathlib.Core.Bool.{false}
 use Rattle.meaning.specs.Refusal.{firstOf, ground1, ground8}

@@ -1,4 +1,4 @@
--- `fault::places_refusal` meets its contract: before record q, each record is the child of one place.
+-- `refusal::places_refusal` meets its contract: before record q, each record is the child of one place.
 use Prim.Native.Nat.{_-_, _≤_}
 use mathlib.Core.List.{[], _∷_}
 use Rattle.meaning.specs.Run.{each}

@@ -1,4 +1,4 @@
--- `fault::records_refusal` meets its contract: before record r no ground applies, and the places of the first r records are counted.
+-- `refusal::records_refusal` meets its contract: before record r no ground applies, and the places of the first r records are counted.
 use Prim.Native.Nat.{_-_, _≤_}
 use mathlib.Core.Path.{_≡_, sym, _∙_}
 use Rattle.meaning.specs.Run.{each}

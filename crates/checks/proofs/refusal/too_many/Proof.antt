@@ -1,4 +1,4 @@
--- `records::fault::too_many` meets its contract, which is its test.
+-- `refusal::too_many` meets its contract, which is its test.
 use mathlib.Core.Path.{refl}
 use Rattle.meaning.specs.Refusal.{ground8}
 use Rattle.checks.proofs.refusal.too_many.Statement.{statement}

@@ -1,4 +1,4 @@
--- `fault::tree_refusal` meets its contract: the records decide, then the last record's sort, then the places.
+-- `refusal::tree_refusal` meets its contract: the records decide, then the last record's sort, then the places.
 use mathlib.Core.Path.{sym, _∙_}
 use Rattle.checks.proofs.Counting.{none}
 use Rattle.checks.proofs.Scan.{tree-record, Past, tree-after}

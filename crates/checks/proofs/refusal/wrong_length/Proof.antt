@@ -1,4 +1,4 @@
--- `records::fault::wrong_length` meets its contract: its three tests in turn are those of the first ground.
+-- `refusal::wrong_length` meets its contract: its three tests in turn are those of the first ground.
 use borrow.Author.Needs.{needs}
 use borrow.Author.Tests.{eq-eqb, ne-eqb}
 use Rattle.meaning.specs.Refusal.{ground1}
