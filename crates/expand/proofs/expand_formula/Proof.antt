@@ -30,9 +30,6 @@ bytes c = start c .args .records .now
 last : (c : tie.After-record-count) → c .record-count .result - 1 ≡ pred (count (bytes c))
 last c = omega (arith, c .record-count .ensures)
 
-write-tree-requires : tie.Need-write-tree-requires
-write-tree-requires c κs = rw (last (c .before)) (start (c .before) .pre, omega arith)
-
 -- ---- what was written
 module _ (c : tie.After-write-tree) where
   abbrev input : List ℕ
@@ -91,7 +88,7 @@ expand-formula-spec =
     (tie.spec
     (λ c κs. search needs)
     (λ c. search needs)
-    write-tree-requires
+    (λ c κs. rw (last (c .before)) (start (c .before) .pre, omega arith))
     (λ c κs. search needs)
     (λ c. refused _ _ (sized (c .before)) (c .if1 .taken))
     (λ c. search needs)

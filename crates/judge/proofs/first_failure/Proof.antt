@@ -26,12 +26,6 @@ Inv-rules rules width l cells n i₀ k₀ i k = (i ≤ n) × (each i (rule-faili
 abbrev μ-rules : tie.MeasureT-rules
 μ-rules rules width l cells n i₀ k₀ i k = n - i
 
-rules-holds : tie.Need-rules-holds Inv-loop μ-loop Inv-rules μ-rules
-rules-holds c = (search needs, none _)
-
-start-of-requires : tie.Need-start-of-requires Inv-loop μ-loop Inv-rules μ-rules
-start-of-requires c κs = c .before .before .before .before .before .before .pre .some
-
 loop-holds : tie.Need-loop-holds Inv-loop μ-loop Inv-rules μ-rules
 loop-holds c =
     let r = c .before .before in
@@ -106,10 +100,10 @@ first-failure-spec =
     μ-loop
     Inv-rules
     μ-rules
-    rules-holds
+    (λ c. (search needs, none _))
     (λ c κs. search needs)
     (λ c κs. search needs)
-    start-of-requires
+    (λ c κs. c .before .before .before .before .before .before .pre .some)
     loop-holds
     fails-at-requires
     (λ c. search needs)

@@ -14,9 +14,6 @@ returns c =
     let n = ne-eqb _ _ (λ z. c .if1 .taken (e ∙ z)) in
     rw n (e, (refl, (refl, refl)))
 
-first-failure-requires : tie.Need-first-failure-requires
-first-failure-requires c κs = filled _ _ _ _ (sym (c .before .first-refusal .ensures) ∙ c .if1 .left)
-
 returns-2 : tie.Need-returns-2
 unfolding judgeAnswer
 returns-2 c =
@@ -26,4 +23,10 @@ returns-2 c =
     (told .refused, (told .held, (told .failing, told .failed)))
 
 pub judge-spec : {M : Type 1} → statement M
-judge-spec = tie.close (tie.spec (λ c κs. search needs) returns first-failure-requires returns-2)
+judge-spec =
+    tie.close
+    (tie.spec
+    (λ c κs. search needs)
+    returns
+    (λ c κs. filled _ _ _ _ (sym (c .before .first-refusal .ensures) ∙ c .if1 .left))
+    returns-2)

@@ -9,14 +9,6 @@ use Rattle.checks.proofs.Counting.{kept, stored}
 use Rattle.checks.proofs.refusal.field_refusal.Statement.{statement}
 use Rattle.checks.proofs.refusal.field_refusal.Tie as tie
 
-returns : tie.Need-returns
-returns c =
-    kept (c .before .before .before .pre .3) (rw (c .before .if1 .taken, by-unused, ne-eqb _ _ (c .if2 .taken))) (λ z. omega arith)
-
-returns-2 : tie.Need-returns-2
-returns-2 c =
-    kept (c .before .before .before .pre .3) (rw (c .before .if1 .taken, by-unused, eq-eqb _ _ (c .if2 .left))) (λ z. omega arith)
-
 returns-3 : tie.Need-returns-3
 returns-3 c =
     kept (c .before .before .before .before .pre .3) (rw (c .before .if3 .taken, by-atom, le-leb _ _ (c .if4 .taken)))
@@ -54,8 +46,8 @@ pub field-refusal-spec : {M : Type 1} → statement M
 field-refusal-spec =
     tie.close
     (tie.spec
-    returns
-    returns-2
+    (λ c. kept (c .before .before .before .pre .3) (rw (c .before .if1 .taken, by-unused, ne-eqb _ _ (c .if2 .taken))) (λ z. omega arith))
+    (λ c. kept (c .before .before .before .pre .3) (rw (c .before .if1 .taken, by-unused, eq-eqb _ _ (c .if2 .left))) (λ z. omega arith))
     returns-3
     returns-4
     returns-5

@@ -16,9 +16,6 @@ Inv-loop s counts last q₀ q = (q ≤ last) × Clear (each q (λ i. ground7 s i
 abbrev μ-loop : tie.MeasureT-loop
 μ-loop s counts last q₀ q = last - q
 
-loop-holds : tie.Need-loop-holds Inv-loop μ-loop
-loop-holds c = (search needs, scan-none _)
-
 returns : tie.Need-returns Inv-loop μ-loop
 returns c =
     let found = not-single (c .before .before .before .before .before .before .pre .2) (omega arith) (c .if1 .taken) in
@@ -29,9 +26,6 @@ loop-again c =
     let one = single (c .before .before .before .before .before .before .pre .2) (omega arith) (c .if1 .left) in
     (omega arith, scan-more _ _ (c .before .before .before .loop .inv .1) one)
 
-returns-2 : tie.Need-returns-2 Inv-loop μ-loop
-returns-2 c = scan-done _ _ _ (omega arith) (c .before .loop .inv .1)
-
 pub places-refusal-spec : {M : Type 1} → statement M
 places-refusal-spec =
     tie.close
@@ -40,10 +34,10 @@ places-refusal-spec =
     μ-loop
     (λ c κs. search needs)
     (λ c. search needs)
-    loop-holds
+    (λ c. (search needs, scan-none _))
     (λ c. search needs)
     returns
     (λ c. search needs)
     (λ c. search needs)
     loop-again
-    returns-2)
+    (λ c. scan-done _ _ _ (omega arith) (c .before .loop .inv .1)))

@@ -17,12 +17,6 @@ Inv-loop s full atoms counts₀ n r₀ counts r = (r ≤ n) × Clear (each r (re
 abbrev μ-loop : tie.MeasureT-loop
 μ-loop s full atoms counts₀ n r₀ counts r = n - r
 
-loop-holds : tie.Need-loop-holds Inv-loop μ-loop
-loop-holds c = (search needs, scan-none _, c .before .before .pre .1)
-
-record-refusal-requires : tie.Need-record-refusal-requires Inv-loop μ-loop
-record-refusal-requires c κs = (search needs, search needs, c .before .before .loop .inv .2)
-
 returns : tie.Need-returns Inv-loop μ-loop
 returns c =
     let found = c .before .record-refusal .ensures .refusal in
@@ -56,8 +50,8 @@ records-refusal-spec =
     Inv-loop
     μ-loop
     (λ c κs. search needs)
-    loop-holds
-    record-refusal-requires
+    (λ c. (search needs, scan-none _, c .before .before .pre .1))
+    (λ c κs. (search needs, search needs, c .before .before .loop .inv .2))
     returns
     (λ c. search needs)
     (λ c. search needs)

@@ -48,15 +48,8 @@ to-five c =
     let l = sym (to-four (c .before)) in
     ⊎-elim (λ t. rw (l ∙ t .0 .taken) (t .1 ∙ t .0 .taken)) (λ e. rw (l ∙ e .0 .left) (e .2 ∙ e .1 .ensures)) (c .if4 .came)
 
-returns : tie.Need-returns
-unfolding badRule
-returns c = rw (sym (to-five (c .before)) ∙ c .if5 .taken) (c .if5 .taken)
-
-returns-2 : tie.Need-returns-2
-unfolding badRule
-returns-2 c = rw (sym (to-five (c .before .before)) ∙ c .before .if5 .left) (c .is-bad-literal5 .ensures)
-
 pub is-bad-spec : {M : Type 1} → statement M
+unfolding badRule
 is-bad-spec =
     tie.close
     (tie.spec
@@ -65,5 +58,5 @@ is-bad-spec =
     (λ c κs. search needs)
     (λ c κs. search needs)
     (λ c κs. search needs)
-    returns
-    returns-2)
+    (λ c. rw (sym (to-five (c .before)) ∙ c .if5 .taken) (c .if5 .taken))
+    (λ c. rw (sym (to-five (c .before .before)) ∙ c .before .if5 .left) (c .is-bad-literal5 .ensures)))

@@ -6,10 +6,6 @@ use Rattle.meaning.specs.Refusal.{badLiteral}
 use Rattle.judge.proofs.form.is_bad_literal.Statement.{statement}
 use Rattle.judge.proofs.form.is_bad_literal.Tie as tie
 
-returns : tie.Need-returns
-unfolding badLiteral
-returns c = simp (sym (c .before .symbol .ensures), le-leb _ _ (c .if1 .taken))
-
 returns-2 : tie.Need-returns-2
 unfolding badLiteral
 returns-2 c =
@@ -30,6 +26,7 @@ returns-3 c =
     (c .if2 .left)
 
 pub is-bad-literal-spec : {M : Type 1} → statement M
+unfolding badLiteral
 is-bad-literal-spec =
     tie.close
     (tie.spec
@@ -38,6 +35,6 @@ is-bad-literal-spec =
     (λ c κs. search needs)
     (λ c. search needs)
     (λ c κs. search needs)
-    returns
+    (λ c. simp (sym (c .before .symbol .ensures), le-leb _ _ (c .if1 .taken)))
     returns-2
     returns-3)

@@ -11,10 +11,13 @@ returns c =
     let one = c .before in
     rw (sym (one .before .is-negated .ensures) ∙ one .if1 .taken, ← one .before .before .plain-at .ensures) (c .negation .ensures)
 
-returns-2 : tie.Need-returns-2
-unfolding literal
-returns-2 c = rw (sym (c .before .is-negated .ensures) ∙ c .if1 .left) (c .before .before .plain-at .ensures)
-
 pub literal-at-spec : {M : Type 1} → statement M
+unfolding literal
 literal-at-spec =
-    tie.close (tie.spec (λ c κs. search needs) (λ c κs. search needs) (λ c κs. search needs) returns returns-2)
+    tie.close
+    (tie.spec
+    (λ c κs. search needs)
+    (λ c κs. search needs)
+    (λ c κs. search needs)
+    returns
+    (λ c. rw (sym (c .before .is-negated .ensures) ∙ c .if1 .left) (c .before .before .plain-at .ensures)))

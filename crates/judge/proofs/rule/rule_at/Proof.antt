@@ -5,11 +5,8 @@ use native.Mathlib.Omega.{arith}
 use Rattle.judge.proofs.rule.rule_at.Statement.{statement}
 use Rattle.judge.proofs.rule.rule_at.Tie as tie
 
-returns : tie.Need-returns
-unfolding ruleAt
-returns c = simp add-zero
-
 pub rule-at-spec : {M : Type 1} → statement M
+unfolding ruleAt
 rule-at-spec =
     tie.close
     (tie.spec
@@ -31,4 +28,4 @@ rule-at-spec =
     (λ c. omega arith)
     (λ c. omega arith)
     (λ c. omega arith)
-    returns)
+    (λ c. simp add-zero))
