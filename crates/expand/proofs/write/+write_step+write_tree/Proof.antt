@@ -92,9 +92,6 @@ module _ (t : ℕ) where
   abbrev s-start : of-step write-step-lts.After-shared-slice-known → of-step write-step-lts.Start
   s-start c = c .before
 
-  step-part-of-requires : of-step write-step-lts.Need-part-of-requires
-  step-part-of-requires c κs = search needs
-
   step-write-tree-requires : of-step write-step-lts.Need-write-tree-requires
   step-write-tree-requires c κs =
       let then = c .before .before in
@@ -120,18 +117,6 @@ module _ (t : ℕ) where
         whole = λ h. absurd (omega arith);
       }
 
-  step-own-kind-requires : of-step write-step-lts.Need-own-kind-requires
-  step-own-kind-requires c κs = search needs
-
-  step-field-a-requires : of-step write-step-lts.Need-field-a-requires
-  step-field-a-requires c κs = search needs
-
-  step-own-a-requires : of-step write-step-lts.Need-own-a-requires
-  step-own-a-requires c κs = search needs
-
-  step-own-b-requires : of-step write-step-lts.Need-own-b-requires
-  step-own-b-requires c κs = search needs
-
   step-put-record-requires : of-step write-step-lts.Need-put-record-requires
   step-put-record-requires c κs =
       let a = c .before .before in
@@ -143,9 +128,6 @@ module _ (t : ℕ) where
         rw (c .before .own-a .ensures, a .field-a .ensures) small-a,
         rw (c .own-b .ensures) small-b,
       )
-
-  step-add-result : of-step write-step-lts.Need-add-result
-  step-add-result c = search needs
 
   step-returns-3 : of-step write-step-lts.Need-returns-3
   step-returns-3 c =
@@ -168,19 +150,10 @@ module _ (t : ℕ) where
   abbrev start : of-tree write-tree-lts.After-row-of → of-tree write-tree-lts.Start
   start c = c .before .before .before
 
-  tree-kind-at-requires : of-tree write-tree-lts.Need-kind-at-requires
-  tree-kind-at-requires c κs = search needs
-
-  tree-row-of-requires : of-tree write-tree-lts.Need-row-of-requires
-  tree-row-of-requires c κs = search needs
-
   tree-loop-holds : of-tree write-tree-lts.Need-loop-holds
   tree-loop-holds c =
       let (w, few) = start c .pre .1 in
       going-none w few (rw (c .before .kind-at .ensures) at (c .row-of .ensures))
-
-  tree-cast-step : of-tree write-tree-lts.Need-cast-step
-  tree-cast-step c = search needs
 
   tree-write-step-requires : of-tree write-tree-lts.Need-write-step-requires
   tree-write-step-requires c κs =
@@ -188,9 +161,6 @@ module _ (t : ℕ) where
       let s = start (at-loop .before) in
       let g = at-loop .loop .inv in
       (omega (arith, s .pre .0), (s .pre .1 .0, going-fits g (c .before .loop-test .taken), omega (arith, g .below, g .low), g .low))
-
-  tree-next-under-requires : of-tree write-tree-lts.Need-next-under-requires
-  tree-next-under-requires c κs = search needs
 
   tree-loop-less : of-tree write-tree-lts.Need-loop-less
   tree-loop-less c =
@@ -203,35 +173,32 @@ module _ (t : ℕ) where
       let in-loop = call .before .before in
       going-more (in-loop .before .loop .inv) (in-loop .loop-test .taken) (call .write-step .ensures) (c .next-under .ensures)
 
-  tree-returns : of-tree write-tree-lts.Need-returns
-  tree-returns c = going-done (c .before .loop .inv) (c .loop-test .left)
-
 pub +write-step+write-tree-spec : {M : Type 1} → statement M
 +write-step+write-tree-spec = close μ-write-step μ-write-tree (λ t. write-step-lts.spec (write-step-claims t)
     (write-step-at t)
     write-step.Post
-    (step-part-of-requires t)
+    (λ c κs. search needs)
     (step-write-tree-requires t)
     (step-returns t)
     (step-returns-2 t)
-    (step-own-kind-requires t)
-    (step-field-a-requires t)
-    (step-own-a-requires t)
-    (step-own-b-requires t)
+    (λ c κs. search needs)
+    (λ c κs. search needs)
+    (λ c κs. search needs)
+    (λ c κs. search needs)
     (step-put-record-requires t)
-    (step-add-result t)
+    (λ c. search needs)
     (step-returns-3 t))
     λ t. write-tree-lts.spec (write-tree-claims t)
     (write-tree-at t)
     write-tree.Post
     Inv-loop
     μ-loop
-    (tree-kind-at-requires t)
-    (tree-row-of-requires t)
+    (λ c κs. search needs)
+    (λ c κs. search needs)
     (tree-loop-holds t)
-    (tree-cast-step t)
+    (λ c. search needs)
     (tree-write-step-requires t)
-    (tree-next-under-requires t)
+    (λ c κs. search needs)
     (tree-loop-less t)
     (tree-loop-again t)
-    (tree-returns t)
+    (λ c. going-done (c .before .loop .inv) (c .loop-test .left))
