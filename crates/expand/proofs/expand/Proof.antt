@@ -27,8 +27,6 @@ pub expand-spec : {M : Type 1} → statement M
 expand-spec =
     tie.close
     (tie.spec
-    (λ c κs. search needs)
-    returns
+    (λ c κs. search needs) returns
     (λ c κs. last-asked (formed (c .before)))
-    (λ c. search needs)
-    returns-2)
+    (λ c. search needs) returns-2)

@@ -86,12 +86,8 @@ pub expand-formula-spec : {M : Type 1} → statement M
 expand-formula-spec =
     tie.close
     (tie.spec
-    (λ c κs. search needs)
-    (λ c. search needs)
+    (λ c κs. search needs) (λ c. search needs)
     (λ c κs. rw (last (c .before)) (start (c .before) .pre, omega arith))
     (λ c κs. search needs)
     (λ c. refused _ _ (sized (c .before)) (c .if1 .taken))
-    (λ c. search needs)
-    copy-requires
-    (λ c. search needs)
-    returns-2)
+    (λ c. search needs) copy-requires (λ c. search needs) returns-2)

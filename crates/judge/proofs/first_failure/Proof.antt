@@ -96,21 +96,9 @@ pub first-failure-spec : {M : Type 1} → statement M
 first-failure-spec =
     tie.close
     (tie.spec
-    Inv-loop
-    μ-loop
-    Inv-rules
-    μ-rules
+    Inv-loop μ-loop Inv-rules μ-rules
     (λ c. (search needs, none _))
-    (λ c κs. search needs)
-    (λ c κs. search needs)
+    (λ c κs. search needs) (λ c κs. search needs)
     (λ c κs. c .before .before .before .before .before .before .pre .some)
-    loop-holds
-    fails-at-requires
-    (λ c. search needs)
-    (λ c. search needs)
-    loop-again
-    (λ c. search needs)
-    (λ c. search needs)
-    rules-again
-    returns
-    returns-2)
+    loop-holds fails-at-requires (λ c. search needs) (λ c. search needs) loop-again (λ c. search needs)
+    (λ c. search needs) rules-again returns returns-2)

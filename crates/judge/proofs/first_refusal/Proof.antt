@@ -28,5 +28,4 @@ first-refusal-spec =
     (λ c. refused-8 _ _ _ _ (sym (c .before .wrong-size .ensures) ∙ c .if1 .taken))
     (λ c κs. size-fits _ _ _ _ (fits c) .0)
     (λ c. refused-13 _ _ _ _ (fits (c .before .before)) (c .before .rules-refusal .ensures) (c .if2 .taken))
-    (λ c κs. search needs)
-    returns-3)
+    (λ c κs. search needs) returns-3)

@@ -26,7 +26,6 @@ pub judge-spec : {M : Type 1} → statement M
 judge-spec =
     tie.close
     (tie.spec
-    (λ c κs. search needs)
-    returns
+    (λ c κs. search needs) returns
     (λ c κs. filled _ _ _ _ (sym (c .before .first-refusal .ensures) ∙ c .if1 .left))
     returns-2)

@@ -48,13 +48,5 @@ field-refusal-spec =
     (tie.spec
     (λ c. kept (c .before .before .before .pre .3) (rw (c .before .if1 .taken, by-unused, ne-eqb _ _ (c .if2 .taken))) (λ z. omega arith))
     (λ c. kept (c .before .before .before .pre .3) (rw (c .before .if1 .taken, by-unused, eq-eqb _ _ (c .if2 .left))) (λ z. omega arith))
-    returns-3
-    returns-4
-    returns-5
-    (λ c κs. search needs)
-    (λ c κs. search needs)
-    returns-6
-    (λ c. search needs)
-    (λ c κs. search needs)
-    (λ c. search needs)
-    returns-7)
+    returns-3 returns-4 returns-5 (λ c κs. search needs) (λ c κs. search needs) returns-6 (λ c. search needs)
+    (λ c κs. search needs) (λ c. search needs) returns-7)

@@ -56,11 +56,5 @@ pub fields-refusal-spec : {M : Type 1} → statement M
 fields-refusal-spec =
     tie.close
     (tie.spec
-    (λ c κs. search needs)
-    (λ c κs. search needs)
-    field-refusal-requires
-    (λ c κs. search needs)
-    (λ c κs. search needs)
-    field-refusal-requires-2
-    (λ c κs. search needs)
-    returns)
+    (λ c κs. search needs) (λ c κs. search needs) field-refusal-requires (λ c κs. search needs) (λ c κs. search needs)
+    field-refusal-requires-2 (λ c κs. search needs) returns)

@@ -29,5 +29,4 @@ formula-refusal-spec =
     (λ c. rw (sym (c .before .wrong-length .ensures) ∙ c .if1 .taken))
     (λ c κs. search needs)
     (λ c. rw (right (c .before .before), sym (c .before .too-many .ensures) ∙ c .if2 .taken))
-    tree-refusal-requires
-    returns-3)
+    tree-refusal-requires returns-3)

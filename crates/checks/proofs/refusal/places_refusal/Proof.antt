@@ -30,14 +30,7 @@ pub places-refusal-spec : {M : Type 1} → statement M
 places-refusal-spec =
     tie.close
     (tie.spec
-    Inv-loop
-    μ-loop
-    (λ c κs. search needs)
-    (λ c. search needs)
+    Inv-loop μ-loop (λ c κs. search needs) (λ c. search needs)
     (λ c. (search needs, scan-none _))
-    (λ c. search needs)
-    returns
-    (λ c. search needs)
-    (λ c. search needs)
-    loop-again
+    (λ c. search needs) returns (λ c. search needs) (λ c. search needs) loop-again
     (λ c. scan-done _ _ _ (omega arith) (c .before .loop .inv .1)))

@@ -47,13 +47,7 @@ pub records-refusal-spec : {M : Type 1} → statement M
 records-refusal-spec =
     tie.close
     (tie.spec
-    Inv-loop
-    μ-loop
-    (λ c κs. search needs)
+    Inv-loop μ-loop (λ c κs. search needs)
     (λ c. (search needs, scan-none _, c .before .before .pre .1))
     (λ c κs. (search needs, search needs, c .before .before .loop .inv .2))
-    returns
-    (λ c. search needs)
-    (λ c. search needs)
-    loop-again
-    returns-2)
+    returns (λ c. search needs) (λ c. search needs) loop-again returns-2)

@@ -30,10 +30,7 @@ tree-refusal-spec =
     (tie.spec
     (λ c κs. (c .before .before .pre .1, none))
     (λ c. tree-record _ _ _ (c .before .records-refusal .ensures .refusal) (c .if1 .taken))
-    (λ c κs. search needs)
-    (λ c. search needs)
-    (λ c κs. search needs)
-    (λ c κs. search needs)
+    (λ c κs. search needs) (λ c. search needs) (λ c κs. search needs) (λ c κs. search needs)
     (λ c. past (c .before) .last (c .if2 .taken))
     places-refusal-requires
     (λ c. c .places-refusal .ensures ∙ past (c .before .before .before) .places (c .before .before .if2 .left)))

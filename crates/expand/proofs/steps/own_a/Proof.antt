@@ -30,7 +30,4 @@ own-a-spec =
     (tie.spec
     (λ c κs. search needs)
     (λ c. rw (lt-ltb _ oneChild (c .before .if1 .taken)) (c .one-less .ensures))
-    (λ c κs. search needs)
-    returns-2
-    returns-3
-    returns-4)
+    (λ c κs. search needs) returns-2 returns-3 returns-4)

@@ -39,13 +39,8 @@ pub copy-spec : {M : Type 1} → statement M
 copy-spec =
     tie.close
     (tie.spec
-    Inv-loop
-    μ-loop
-    (λ c. search needs)
-    (λ c. search needs)
+    Inv-loop μ-loop (λ c. search needs) (λ c. search needs)
     (λ c. omega (arith, simp length-sets at (ap length (c .before .before .loop .inv .1))))
-    (λ c. search needs)
-    (λ c. search needs)
-    loop-again
+    (λ c. search needs) (λ c. search needs) loop-again
     (λ c. simp length-sets at (ap length (c .before .loop .inv .1)))
     returns)

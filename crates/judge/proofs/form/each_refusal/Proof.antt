@@ -34,13 +34,7 @@ pub each-refusal-spec : {M : Type 1} → statement M
 each-refusal-spec =
     tie.close
     (tie.spec
-    Inv-loop
-    μ-loop
+    Inv-loop μ-loop
     (λ c. (search needs, scan-none _))
-    (λ c κs. search needs)
-    (λ c κs. search needs)
-    returns
-    (λ c. search needs)
-    (λ c. search needs)
-    loop-again
+    (λ c κs. search needs) (λ c κs. search needs) returns (λ c. search needs) (λ c. search needs) loop-again
     (λ c. scan-done _ _ _ (omega arith) (c .before .loop .inv .1)))

@@ -53,10 +53,6 @@ unfolding badRule
 is-bad-spec =
     tie.close
     (tie.spec
-    (λ c κs. search needs)
-    (λ c κs. search needs)
-    (λ c κs. search needs)
-    (λ c κs. search needs)
-    (λ c κs. search needs)
+    (λ c κs. search needs) (λ c κs. search needs) (λ c κs. search needs) (λ c κs. search needs) (λ c κs. search needs)
     (λ c. rw (sym (to-five (c .before)) ∙ c .if5 .taken) (c .if5 .taken))
     (λ c. rw (sym (to-five (c .before .before)) ∙ c .before .if5 .left) (c .is-bad-literal5 .ensures)))

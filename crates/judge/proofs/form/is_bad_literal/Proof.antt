@@ -30,11 +30,6 @@ unfolding badLiteral
 is-bad-literal-spec =
     tie.close
     (tie.spec
-    (λ c. search needs)
-    (λ c. search needs)
-    (λ c κs. search needs)
-    (λ c. search needs)
-    (λ c κs. search needs)
+    (λ c. search needs) (λ c. search needs) (λ c κs. search needs) (λ c. search needs) (λ c κs. search needs)
     (λ c. simp (sym (c .before .symbol .ensures), le-leb _ _ (c .if1 .taken)))
-    returns-2
-    returns-3)
+    returns-2 returns-3)

@@ -16,8 +16,5 @@ unfolding literal
 literal-at-spec =
     tie.close
     (tie.spec
-    (λ c κs. search needs)
-    (λ c κs. search needs)
-    (λ c κs. search needs)
-    returns
+    (λ c κs. search needs) (λ c κs. search needs) (λ c κs. search needs) returns
     (λ c. rw (sym (c .before .is-negated .ensures) ∙ c .if1 .left) (c .before .before .plain-at .ensures)))
