@@ -21,16 +21,16 @@ none-sooner (suc x) (suc y) e =
     let h = rw (ne-eqb (suc x) 0 (λ z. omega arith), ne-eqb (suc y) 0 (λ z. omega arith)) at e in absurd (omega arith)
 
 -- None, or one that comes after n.
-abbrev Past : ℕ → ℕ → Type 0
-Past n x = (x ≡ 0) ⊎ (n < x)
+abbrev Later : ℕ → ℕ → Type 0
+Later n x = (x ≡ 0) ⊎ (n < x)
 
-past : {n m x : ℕ} (p : Bool) → n < m → Past m x → Past n (cond p m x)
-past true h b = inr h
-past false h (inl e) = inl e
-past false h (inr l) = inr (omega arith)
+later : {n m x : ℕ} (p : Bool) → n < m → Later m x → Later n (cond p m x)
+later true h b = inr h
+later false h (inl e) = inl e
+later false h (inr l) = inr (omega arith)
 
 -- A condition n on both fields, before those that come after it.
-both : (n : ℕ) {x y : ℕ} (p q : Bool) → 0 < n → Past n x → Past n y
+both : (n : ℕ) {x y : ℕ} (p q : Bool) → 0 < n → Later n x → Later n y
     → cond p n (cond q n (sooner x y)) ≡ sooner (cond p n x) (cond q n y)
 both n true true h a b = rw (ne-eqb n 0 (λ e. omega arith)) (omega arith)
 both n true false h a (inl e) = rw (e, ne-eqb n 0 (λ z. omega arith))
@@ -43,9 +43,9 @@ woven : (a3 b3 a4 b4 a5 b5 a6 b6 : Bool)
     → cond a3 3 (cond b3 3 (cond a4 4 (cond b4 4 (cond a5 5 (cond b5 5 (cond a6 6 (cond b6 6 0)))))))
     ≡ sooner (cond a3 3 (cond a4 4 (cond a5 5 (cond a6 6 0)))) (cond b3 3 (cond b4 4 (cond b5 5 (cond b6 6 0))))
 woven a3 b3 a4 b4 a5 b5 a6 b6 =
-    let to6 : (p : Bool) → Past 5 (cond p 6 0) = λ p. past p (omega arith) (inl refl) in
-    let to5 : (p q : Bool) → Past 4 (cond p 5 (cond q 6 0)) = λ p q. past p (omega arith) (to6 q) in
-    let to4 : (p q t : Bool) → Past 3 (cond p 4 (cond q 5 (cond t 6 0))) = λ p q t. past p (omega arith) (to5 q t) in
+    let to6 : (p : Bool) → Later 5 (cond p 6 0) = λ p. later p (omega arith) (inl refl) in
+    let to5 : (p q : Bool) → Later 4 (cond p 5 (cond q 6 0)) = λ p q. later p (omega arith) (to6 q) in
+    let to4 : (p q t : Bool) → Later 3 (cond p 4 (cond q 5 (cond t 6 0))) = λ p q t. later p (omega arith) (to5 q t) in
     rw (
       both 6 a6 b6 (omega arith) (inl refl) (inl refl),
       both 5 a5 b5 (omega arith) (to6 a6) (to6 b6),

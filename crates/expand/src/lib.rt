@@ -8,7 +8,7 @@ ghost use lib.ListN.{length};
 ghost use Rattle.meaning.specs.Record.{count};
 ghost use Rattle.meaning.specs.Refusal.{firstOf};
 ghost use Rattle.meaning.specs.Service.{expandAnswer, expandAfter};
-ghost use Rattle.expand.specs.Asking.{Asked, sizeGrounds, Expanded};
+ghost use Rattle.expand.specs.Expanding.{Expandable, sizeGrounds, Expanded};
 use checks::refusal;
 use records::layout;
 use refusals::Counted;
@@ -29,7 +29,7 @@ pub fn expand(records: &[u8], atoms: u64, out: &mut [u8]) -> Counted
 // The same for records that are a formula: what is left to refuse is its size. That is known only after the last record, and a refusal
 // leaves the output as it was, so the records are written into a buffer.
 fn expand_formula(records: &[u8], out: &mut [u8]) -> Counted
-    requires { ⌜ Asked (now records) (pred (count (now records))) ⌝ }
+    requires { ⌜ Expandable (now records) (pred (count (now records))) ⌝ }
     ensures { λ v. ⌜ Expanded (now (records .entry)) (now (out .entry)) (v .refusal) (v .count) (now (out .exit)) ⌝ }
 {
     let last = layout::record_count(records) - 1;

@@ -12,7 +12,7 @@ use native.Mathlib.Omega.{arith}
 use Rattle.meaning.specs.Run.{each}
 use Rattle.meaning.specs.Rule.{Rule, ruleAt, placed, holds}
 use Rattle.meaning.specs.Judge.{Verdict, yes, no, ruleCount, failsAt, failures, firstFailure, verdict}
-use Rattle.judge.proofs.Places.{Stretch}
+use Rattle.judge.proofs.PlaceStretch.{Stretch}
 
 first-stays : (xs ys : List Verdict) {i k : ℕ} → firstFailure xs ≡ no i k → firstFailure (xs ++ ys) ≡ no i k
 unfolding firstFailure

@@ -5,7 +5,7 @@ use borrow.Author.Needs.{needs}
 use borrow.Author.Tests.{ne-eqb}
 use Rattle.meaning.specs.WellFormed.{WellFormed}
 use Rattle.meaning.proofs.Accepted.{accepted}
-use Rattle.expand.proofs.Answering.{last-asked, whole-sized, whole-refused, answers}
+use Rattle.expand.proofs.SizeGrounds.{last-expandable, whole-sized, whole-refused, answers}
 use Rattle.expand.proofs.expand.Statement.{statement}
 use Rattle.expand.proofs.expand.Tie as tie
 
@@ -28,5 +28,5 @@ expand-spec =
     tie.close
     (tie.spec
     (λ c κs. search needs) returns
-    (λ c κs. last-asked (formed (c .before)))
+    (λ c κs. last-expandable (formed (c .before)))
     (λ c. search needs) returns-2)

@@ -12,8 +12,8 @@ use Rattle.meaning.specs.Record.{count, recordSize, mostRecords}
 use Rattle.meaning.specs.Tree.{formAt, postorder}
 use Rattle.meaning.specs.Refusal.{firstOf, wholeForm}
 use Rattle.meaning.proofs.Stores.{sets-written}
-use Rattle.expand.specs.Asking.{many, sizeGrounds}
-use Rattle.expand.proofs.Answering.{capped, size-fits, refused, written-whole, last-size, last-bytes, whole-length, take-front}
+use Rattle.expand.specs.Expanding.{many, sizeGrounds}
+use Rattle.expand.proofs.SizeGrounds.{capped, size-fits, refused, written-whole, last-size, last-bytes, whole-length, take-front}
 use Rattle.expand.proofs.expand_formula.Statement.{statement}
 use Rattle.expand.proofs.expand_formula.Tie as tie
 

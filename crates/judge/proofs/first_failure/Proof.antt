@@ -8,7 +8,7 @@ use native.Mathlib.Omega.{arith}
 use borrow.Author.Needs.{needs}
 use Rattle.meaning.specs.Run.{each, cellOf}
 use Rattle.meaning.specs.Service.{told}
-use Rattle.judge.proofs.Places.{rule-stretch}
+use Rattle.judge.proofs.PlaceStretch.{rule-stretch}
 use Rattle.judge.proofs.Scanning.{failing, rule-failing, none, more, starting, ending, holding, says-no, says-yes}
 use Rattle.judge.proofs.first_failure.Statement.{statement}
 use Rattle.judge.proofs.first_failure.Tie as tie

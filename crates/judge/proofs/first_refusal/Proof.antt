@@ -4,7 +4,7 @@ use mathlib.Core.Bool.{false}
 use borrow.Author.Needs.{needs}
 use Rattle.meaning.specs.Refusal.{ground8-cells, mostColumns}
 use Rattle.trace.proofs.Fitting.{size-fits}
-use Rattle.judge.proofs.Grounds.{refused-8, refused-13, cells-decide}
+use Rattle.judge.proofs.JudgeGrounds.{refused-8, refused-13, cells-decide}
 use Rattle.judge.proofs.first_refusal.Statement.{statement}
 use Rattle.judge.proofs.first_refusal.Tie as tie
 

@@ -3,7 +3,7 @@ use mathlib.Core.Path.{refl, sym, _∙_}
 use borrow.Author.Tests.{eq-eqb, ne-eqb}
 use borrow.Author.Needs.{needs}
 use Rattle.meaning.specs.Service.{judgeAnswer}
-use Rattle.judge.proofs.Grounds.{filled}
+use Rattle.judge.proofs.JudgeGrounds.{filled}
 use Rattle.judge.proofs.judge.Statement.{statement}
 use Rattle.judge.proofs.judge.Tie as tie
 

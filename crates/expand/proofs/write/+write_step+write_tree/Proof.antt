@@ -4,7 +4,7 @@ mod Claims
 use Prim.Native.Nat.{ℕ}
 use native.Mathlib.Omega.{arith}
 use borrow.Author.Needs.{needs}
-use Rattle.expand.proofs.Parts.{part-asked, part-bytes, part-count, own-bytes, own-count, own-small}
+use Rattle.expand.proofs.Parts.{part-expandable, part-bytes, part-count, own-bytes, own-count, own-small}
 use Rattle.expand.proofs.Writing.{going-none, going-less, going-fits, going-more, going-done}
 use Rattle.expand.proofs.write.write_step.Reads as write-step
 use Rattle.expand.proofs.write.+write_step+write_tree.Lts-write_step as write-step-lts
@@ -25,7 +25,7 @@ module _ (t : ℕ) where
       let then = c .before .before in
       let s = s-start (then .before) in
       let (w, f, _, few) = s .pre .1 in
-      let (l, asked) = part-asked w _ f (then .if1 .taken) in
+      let (l, asked) = part-expandable w _ f (then .if1 .taken) in
       let e = c .before .part-of .ensures in
       (omega (arith, s .pre .0), rw e (asked, few))
 

@@ -1,12 +1,12 @@
 -- What is asked of records and of the buffer, and what was written. Numbers of records stop at 256, which stands for any number above 255.
---   Asked s r                    record r of a formula in which shorthands may stand
+--   Expandable s r               record r of a formula in which shorthands may stand
 --   bytesAt s r n, sizeAt s r    the records of its tree from number n on, and how many they are
 --   stepBytes s r d under n      those of its step d
 --   stepCount s r d              how many these are
 --   fits kind d                  a record of the kind may have the step d
 --   sizeGrounds n room           what an expansion of n records may be refused for, by the room that it has
 --   Expanded s out x n new       the answer for records s that are a formula: refusal x, count n, and the output `new`
---   Wrote bytes n size old e new    e is the number after so many records from number n on; unless it is too high, their bytes were written
+--   Wrote bytes n size old e new    e is the number after `size` records from number n on; unless it is too high, their bytes were written
 use Prim.Native.Nat.{ℕ, pred, _+_, _*_, _<_, _≤_, min}
 use mathlib.Core.Path.{_≡_}
 use mathlib.Core.Bool.{Bool, true, false, cond, _&&_}
@@ -22,7 +22,7 @@ use Rattle.meaning.specs.Service.{accepted}
 use Rattle.meaning.specs.WellFormed.{WellFormed}
 use Rattle.expand.specs.Steps.{atomStep, partA, byte, treeFrom, treeSize, partUse, stepFrom, stepSize}
 
-pub record Asked (s : List ℕ) (r : ℕ) : Type 0 where
+pub record Expandable (s : List ℕ) (r : ℕ) : Type 0 where
   pub atoms : ℕ
   pub formed : WellFormed true s atoms
   pub index : r < count s

@@ -20,7 +20,7 @@ use Rattle.meaning.proofs.Accepted.{clear-well-formed}
 use Rattle.meaning.proofs.First.{none-clear, clear-skip, found-stop}
 use Rattle.meaning.proofs.Stores.{sets-written}
 use Rattle.expand.specs.Steps.{treeFrom, treeSize}
-use Rattle.expand.specs.Asking.{Asked, bytesAt, sizeAt, many, sizeGrounds, Expanded}
+use Rattle.expand.specs.Expanding.{Expandable, bytesAt, sizeAt, many, sizeGrounds, Expanded}
 use Rattle.expand.proofs.Sized.{tree-length}
 
 -- ---- the size
@@ -65,8 +65,8 @@ answers s A out e size bytes = (e, (rw e at size, rw e at bytes))
 
 -- ---- the last record is the whole formula
 module _ {s : List ℕ} {A : ℕ} (w : WellFormed true s A) where
-  pub last-asked : Asked s (pred (count s))
-  last-asked = record { atoms = A; formed = w; index = omega (arith, w .some) }
+  pub last-expandable : Expandable s (pred (count s))
+  last-expandable = record { atoms = A; formed = w; index = omega (arith, w .some) }
 
   pub last-size : sizeAt s (pred (count s)) ≡ wholeForm s
   unfolding treeSize
