@@ -1,11 +1,12 @@
 -- `expand` meets its contract: a refusal of the records is the answer, and otherwise they are a formula, whose size decides.
 use mathlib.Core.Path.{sym, _∙_}
 use mathlib.Core.Bool.{true}
+use native.Mathlib.Omega.{arith}
 use borrow.Author.Needs.{needs}
 use borrow.Author.Tests.{ne-eqb}
 use Rattle.meaning.specs.WellFormed.{WellFormed}
 use Rattle.meaning.proofs.Accepted.{accepted}
-use Rattle.expand.proofs.SizeGrounds.{last-expandable, whole-sized, whole-refused, answers}
+use Rattle.expand.proofs.SizeGrounds.{whole-sized, whole-refused, answers}
 use Rattle.expand.proofs.expand.Statement.{statement}
 use Rattle.expand.proofs.expand.Tie as tie
 
@@ -28,5 +29,5 @@ expand-spec =
     tie.close
     (tie.spec
     (λ c κs. search needs) returns
-    (λ c κs. last-expandable (formed (c .before)))
+    (λ c κs. (let w = formed (c .before) in record { atoms = _; formed = w; index = omega (arith, w .some) }))
     (λ c. search needs) returns-2)

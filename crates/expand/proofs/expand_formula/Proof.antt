@@ -1,86 +1,47 @@
 -- `expand_formula` meets its contract: the buffer begins with the whole tree, if that has at most 255 records, and is copied to the
 -- output's start.
-use Prim.Native.Nat.{ℕ, pred, _*_, _-_, _≤_, min}
-use mathlib.Core.Path.{_≡_, sym, ap, _∙_}
-use mathlib.Core.List.{List}
-use native.Mathlib.Nat.{zero-add}
+use Prim.Native.Nat.{pred, _*_, _-_}
+use mathlib.Core.Path.{_≡_, refl}
 use native.Mathlib.Omega.{arith}
 use borrow.Author.Needs.{needs}
-use lib.ListN.{length, take, replicate}
-use lib.Seq.{sets, length-sets}
+use lib.ListN.{replicate}
 use Rattle.meaning.specs.Record.{count, recordSize, mostRecords}
-use Rattle.meaning.specs.Tree.{formAt, postorder}
-use Rattle.meaning.specs.Refusal.{firstOf, wholeForm}
-use Rattle.meaning.proofs.Stores.{sets-written}
-use Rattle.expand.specs.Expanding.{many, sizeGrounds}
-use Rattle.expand.proofs.SizeGrounds.{capped, size-fits, refused, written-whole, last-size, last-bytes, whole-length, take-front}
+use Rattle.expand.specs.Expanding.{bytesAt, sizeAt, Wrote}
+use Rattle.expand.proofs.SizeGrounds.{size-refused, size-fitting, copied}
 use Rattle.expand.proofs.expand_formula.Statement.{statement}
 use Rattle.expand.proofs.expand_formula.Tie as tie
-
--- The buffer's length.
-abbrev mostBytes : ℕ
-mostBytes = recordSize * mostRecords
 
 abbrev start : tie.After-record-count → tie.Start
 start c = c .before .before .before
 
-abbrev bytes : tie.After-record-count → List ℕ
-bytes c = start c .args .records .now
-
-last : (c : tie.After-record-count) → c .record-count .result - 1 ≡ pred (count (bytes c))
+last : (c : tie.After-record-count) → c .record-count .result - 1 ≡ pred (count (start c .args .records .now))
 last c = omega (arith, c .record-count .ensures)
 
--- ---- what was written
-module _ (c : tie.After-write-tree) where
-  abbrev input : List ℕ
-  input = bytes (c .before .before)
+wrote : (c : tie.After-write-tree)
+    → let s = start (c .before .before) .args .records .now in
+    let r = pred (count s) in
+    Wrote (bytesAt s r 0) 0 (sizeAt s r) (replicate (recordSize * mostRecords) 0) (c .write-tree .result) (c .write-tree .last .1 .1 .0)
+wrote c = rw (last (c .before .before)) at (c .write-tree .ensures)
 
-  abbrev tree : List ℕ
-  tree = postorder (formAt input (pred (count input)))
-
-  size : c .write-tree .result ≡ min many (wholeForm input)
-  size =
-      c .write-tree .ensures .next
-      ∙ rw (last (c .before .before), last-size (start (c .before .before) .pre .formed), zero-add)
-
-  made : c .write-tree .result ≤ mostRecords → c .write-tree .last .1 .1 .0 ≡ sets (replicate mostBytes 0) 0 tree
-  made few =
-      c .write-tree .ensures .whole few
-      ∙ rw (last (c .before .before), last-bytes (start (c .before .before) .pre .formed))
-
-sized : (c : tie.After-size-refusal)
-    → c .size-refusal .result ≡ firstOf (sizeGrounds (wholeForm (input (c .before))) (length (start (c .before .before .before) .args .out .now)))
-sized c = c .size-refusal .ensures ∙ rw (size (c .before)) (capped _ _)
-
--- ---- what an accepted size means
-fits : (c : tie.Else1)
-    → (c .before .before .write-tree .result ≤ mostRecords)
-    × (recordSize * (c .before .before .write-tree .result) ≤ length (start (c .before .before .before .before) .args .out .now))
-fits c = size-fits _ _ (sym (c .before .size-refusal .ensures) ∙ c .if1 .left)
-
-whole : (c : tie.Else1) → c .before .before .write-tree .result ≡ wholeForm (input (c .before .before))
-whole c = omega (arith, size (c .before .before), fits c .0)
-
-long : (c : tie.Else1) → length (tree (c .before .before)) ≡ recordSize * (c .before .before .write-tree .result)
-long c = rw (whole c) (whole-length _)
+returns : tie.Need-returns
+returns c =
+    let call = c .before .before in
+    size-refused (start (call .before .before) .pre) refl (wrote call) _ (c .before .size-refusal .ensures) (c .if1 .taken)
 
 copy-requires : tie.Need-copy-requires
 copy-requires c κs =
     let one = c .before .before in
-    let full = simp length-sets at (ap length (made (one .before .before) (fits one .0))) in
-    (full, omega (arith, full, fits one .0), fits one .1)
+    let call = one .before .before in
+    let s = start (call .before .before) in
+    size-fitting (s .pre) refl (wrote call) (s .args .out .now) (one .before .size-refusal .ensures) (one .if1 .left)
 
 returns-2 : tie.Need-returns-2
 returns-2 c =
-    let copied = c .before .before in
-    let one = copied .before .before .before in
+    let copy = c .before .before in
+    let one = copy .before .before .before in
     let call = one .before .before in
-    let front : take (recordSize * (call .write-tree .result)) (call .write-tree .last .1 .1 .0) ≡ tree call =
-    rw (made call (fits one .0), ← long one)
-    (take-front (tree call) (replicate mostBytes 0) (omega (arith, long one, fits one .0)))
-    in
-    written-whole _ _ (sized (one .before)) (one .if1 .left) (whole one)
-    (copied .copy .ensures ∙ rw front (sets-written (tree call) _ (omega (arith, long one, fits one .1))))
+    copied (start (call .before .before) .pre) refl (wrote call) _ (one .before .size-refusal .ensures) (one .if1 .left)
+    (copy .copy .ensures)
 
 pub expand-formula-spec : {M : Type 1} → statement M
 expand-formula-spec =
@@ -88,6 +49,4 @@ expand-formula-spec =
     (tie.spec
     (λ c κs. search needs) (λ c. search needs)
     (λ c κs. rw (last (c .before)) (start (c .before) .pre, omega arith))
-    (λ c κs. search needs)
-    (λ c. refused _ _ (sized (c .before)) (c .if1 .taken))
-    (λ c. search needs) copy-requires (λ c. search needs) returns-2)
+    (λ c κs. search needs) returns (λ c. search needs) copy-requires (λ c. search needs) returns-2)
