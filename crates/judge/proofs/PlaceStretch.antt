@@ -1,15 +1,20 @@
--- The instants of a place are a stretch: none before its start has the place, none from its end on, and each between.
+-- The instants of a place are a stretch: none before its start has the place, none from its end on, and each between. So a rule's first
+-- failing instant is found between the two.
 use Prim.Native.Nat.{ℕ, zero, suc, _+_, _≤_, _<_}
-use mathlib.Core.Path.{_≡_, refl, ap}
-use mathlib.Core.Bool.{Bool, true, false}
+use mathlib.Core.Path.{_≡_, refl, sym, _∙_}
+use mathlib.Core.Bool.{Bool, true, false, not}
+use mathlib.Core.Logic.{⊎-elim}
 use mathlib.Core.List.{List}
+use native.Mathlib.Nat.{le-refl, eq-or-lt-of-le, le-of-suc-le-suc}
+use native.Mathlib.Numerals.{add-one}
 use native.Mathlib.Omega.{arith}
 use borrow.Author.Tests.{lt-ltb, le-ltb, eq-eqb, ne-eqb}
-use Rattle.meaning.specs.Rule.{Rule, ruleAt, placed}
-use Rattle.meaning.specs.Judge.{ruleCount}
+use Rattle.meaning.specs.Rule.{Rule, placed, holds}
+use Rattle.meaning.specs.Judge.{failsAt}
 use Rattle.meaning.specs.Refusal.{badLiteral, badRule}
+use Rattle.meaning.proofs.Bounds.{le-or-lt}
 use Rattle.meaning.proofs.Fails.{tests}
-use Rattle.judge.specs.Filled.{Filled, six, startOf, endOf}
+use Rattle.judge.specs.Filled.{Lookable, FirstWhere, startOf, endOf}
 
 -- Of the instants below L, those from a up to b have p.
 pub record Stretch (L : ℕ) (p : ℕ → Bool) (a b : ℕ) : Type 0 where
@@ -55,9 +60,37 @@ low-place : (W : ℕ) (ρ : Rule) → badRule W ρ ≡ false → ρ .place ≤ 3
 unfolding badRule badLiteral
 low-place W ρ e = let h = simp tests at e in omega arith
 
--- So are the instants of a rule, by the words as the code read them.
-pub rule-stretch : {ws : List ℕ} {W L : ℕ} {cells : List ℕ} {i p a b c d e x y : ℕ} → Filled ws W L cells
-    → six p a b c d e ≡ ruleAt ws i → i < ruleCount ws → x ≡ startOf L p → y ≡ endOf L p → Stretch L (placed L (ruleAt ws i .place)) x y
-rule-stretch {ws} {W} {L} {i = i} {p = p} f r h ex ey =
-    let q : p ≡ ruleAt ws i .place = ap (λ (ρ : Rule). ρ .place) r in
-    rw (ex, ey, q) (place-stretch L _ (f .some) (low-place W _ (f .forms i h)))
+-- So are the instants of a rule, by its start and end as the code has them.
+pub rule-stretch : {ρ : Rule} {W L : ℕ} {cells : List ℕ} {x y : ℕ} → Lookable ρ W L cells → x ≡ startOf L (ρ .place) → y ≡ endOf L (ρ .place)
+    → Stretch L (placed L (ρ .place)) x y
+rule-stretch {ρ} {W} {L} f ex ey = rw (ex, ey) (place-stretch L (ρ .place) (f .some) (low-place W ρ (f .form)))
+
+-- ---- a rule's first failing instant: it fails at none that its place doesn't have, and at one that it has if it doesn't hold
+module _ {L : ℕ} (cell : ℕ → ℕ → ℕ) (ρ : Rule) {a b : ℕ} (w : Stretch L (placed L (ρ .place)) a b) where
+  -- It fails at no instant before q.
+  abbrev pub Passed : ℕ → Type 0
+  Passed q = (j : ℕ) → j < q → failsAt L cell ρ j ≡ false
+
+  pub passed-start : Passed a
+  unfolding failsAt
+  passed-start j l = rw (w .before j l)
+
+  module _ {k : ℕ} (h : a ≤ k) (l : k < b) {t : Bool} (test : t ≡ not (holds cell ρ k)) (passed : Passed k) where
+    tested : failsAt L cell ρ k ≡ t
+    unfolding failsAt
+    tested = rw (w .within k h l) (sym test)
+
+    pub passed-more : t ≡ false → Passed (k + 1)
+    passed-more e j m =
+        ⊎-elim (λ (d : j ≡ k). rw d (tested ∙ e)) (λ (n : j < k). passed j n) (eq-or-lt-of-le (le-of-suc-le-suc (rw add-one at m)))
+
+    pub first-there : t ≡ true → FirstWhere L (failsAt L cell ρ) k
+    first-there e = record { bound = omega (arith, w .last); before = passed; there = λ _. tested ∙ e }
+
+  pub first-none : {q : ℕ} → b ≤ q → Passed q → FirstWhere L (failsAt L cell ρ) L
+  unfolding failsAt
+  first-none {q} e passed = record {
+    bound = le-refl L;
+    before = λ j l. ⊎-elim (λ (h : q ≤ j). rw (w .past j (omega arith) l)) (λ (h : j < q). passed j h) (le-or-lt q j);
+    there = λ l. absurd (omega arith);
+  }
