@@ -99,23 +99,13 @@ fn fields_refusal(s: &[u8], atoms: u64, counts: &mut Counts, r: usize, kind: u8)
     requires { ⌜ (r < count (now s)) × (count (now s) ≤ mostRecords) × (kind ≡ kindByte (now s) r) × Places (now s) r (now counts) ⌝ }
     ensures { λ x. ⌜ Taken (fieldsGrounds (now (s .entry)) atoms r) (now (s .entry)) (r + 1) (now (counts .exit)) x ⌝ }
 {
-    let a = field_refusal(
-        s,
-        atoms,
-        counts,
-        r,
-        shapes::use_a(kind),
-        layout::field_a(s, r),
-    );
-    let b = field_refusal(
-        s,
-        atoms,
-        counts,
-        r,
-        shapes::use_b(kind),
-        layout::field_b(s, r),
-    );
-    sooner(a, b)
+    let ua = shapes::use_a(kind);
+    let ub = shapes::use_b(kind);
+    let a = layout::field_a(s, r);
+    let b = layout::field_b(s, r);
+    let x = field_refusal(s, atoms, counts, r, ua, a);
+    let y = field_refusal(s, atoms, counts, r, ub, b);
+    sooner(x, y)
 }
 
 // The first of 2 to 6 that applies to record r. If none does, its children are counted.
