@@ -98,31 +98,10 @@ module _ (t : ℕ) where
       going-more (in-loop .before .loop .inv) (in-loop .loop-test .taken) (call .write-step .ensures) (c .next-under .ensures)
 
 pub +write-step+write-tree-spec : {M : Type 1} → statement M
-+write-step+write-tree-spec = close μ-write-step μ-write-tree (λ t. write-step-lts.spec (write-step-claims t)
-    (write-step-at t)
-    write-step.Post
-    (λ c κs. search needs)
-    (step-write-tree-requires t)
-    (step-returns t)
-    (step-returns-2 t)
-    (λ c κs. search needs)
-    (λ c κs. search needs)
-    (λ c κs. search needs)
-    (λ c κs. search needs)
-    (step-put-record-requires t)
-    (λ c. search needs)
++write-step+write-tree-spec = close μ-write-step μ-write-tree (λ t. write-step-lts.spec (write-step-claims t) (write-step-at t) write-step.Post
+    (λ c κs. search needs) (step-write-tree-requires t) (step-returns t) (step-returns-2 t) (λ c κs. search needs)
+    (λ c κs. search needs) (λ c κs. search needs) (λ c κs. search needs) (step-put-record-requires t) (λ c. search needs)
     (step-returns-3 t))
-    λ t. write-tree-lts.spec (write-tree-claims t)
-    (write-tree-at t)
-    write-tree.Post
-    Inv-loop
-    μ-loop
-    (λ c κs. search needs)
-    (λ c κs. search needs)
-    (tree-loop-holds t)
-    (λ c. search needs)
-    (tree-write-step-requires t)
-    (λ c κs. search needs)
-    (tree-loop-less t)
-    (tree-loop-again t)
-    (λ c. going-done (c .before .loop .inv) (c .loop-test .left))
+    λ t. write-tree-lts.spec (write-tree-claims t) (write-tree-at t) write-tree.Post Inv-loop μ-loop
+    (λ c κs. search needs) (λ c κs. search needs) (tree-loop-holds t) (λ c. search needs) (tree-write-step-requires t)
+    (λ c κs. search needs) (tree-loop-less t) (tree-loop-again t) (λ c. going-done (c .before .loop .inv) (c .loop-test .left))
