@@ -1,5 +1,5 @@
 -- What a field's number says. A field's use is one of four, numbered 0 to 3, and a use that is a child's has the number of
--- the child's sort. So the first condition on a field is told by the number: for a child, that it is late, and then that
+-- the child's sort. So the number says what the first condition on a field is: for a child, that it is late, and then that
 -- its sort has another number.
 use Prim.Native.Nat.{ℕ, zero, suc, _≤_}
 use mathlib.Core.Path.{_≡_, refl}

@@ -38,9 +38,9 @@ module _ (full : Bool) (s : List ℕ) (A : ℕ) where
   tree-after {n} {kind} {t} none size at-last sort =
       let records = each (count s) (recordGrounds full s A) in
       let clear = none-clear records (numbered-each _ (count s) (record-numbered full s A)) none in
-      let told : t ≡ sortCode (sortOf (kindAt s (pred (count s)))) = sort ∙ rw (at-last, size, sub-one) in
+      let read : t ≡ sortCode (sortOf (kindAt s (pred (count s)))) = sort ∙ rw (at-last, size, sub-one) in
       let two : sortCode formula ≡ 2 = unfold sortCode in refl in
       record {
-        last = λ q. rw (clear-skip records _ clear, differ-code, ← told, two, ne-eqb t 2 q);
-        places = λ e. rw (clear-skip records _ clear, differ-code, ← told, two, eq-eqb t 2 e);
+        last = λ q. rw (clear-skip records _ clear, differ-code, ← read, two, ne-eqb t 2 q);
+        places = λ e. rw (clear-skip records _ clear, differ-code, ← read, two, eq-eqb t 2 e);
       }

@@ -7,7 +7,7 @@ use judge::Judged;
 use refusals::Counted;
 use value::Valued;
 
-// Check: 0 if the bytes are the records of a formula over so many atoms, else the number of the first refusal that applies.
+// Check: 0 if the bytes are the records of a formula over `atoms` atoms, else the number of the first refusal that applies.
 #[no_mangle]
 pub extern "C" fn pasturequill_check(records: &[u8], atoms: u64) -> u8
     ensures { λ x. ⌜ x ≡ checkAnswer (now (records .entry)) atoms ⌝ }

@@ -1,4 +1,4 @@
--- `judge` meets its contract: a refusal is the answer, and where there is none the first failure is told.
+-- `judge` meets its contract: a refusal is the answer, and where there is none the first failure is.
 use mathlib.Core.Path.{refl, sym, _∙_}
 use borrow.Author.Tests.{eq-eqb, ne-eqb}
 use borrow.Author.Needs.{needs}
@@ -18,9 +18,9 @@ returns-2 : tie.Need-returns-2
 unfolding judgeAnswer
 returns-2 c =
     let else = c .before in
-    let told = c .first-failure .ensures in
+    let found = c .first-failure .ensures in
     rw (eq-eqb _ _ (sym (else .before .first-refusal .ensures) ∙ else .if1 .left))
-    (told .refused, (told .held, (told .failing, told .failed)))
+    (found .refused, (found .held, (found .failing, found .failed)))
 
 pub judge-spec : {M : Type 1} → statement M
 judge-spec =

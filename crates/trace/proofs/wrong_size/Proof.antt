@@ -2,14 +2,14 @@
 use native.Mathlib.Nat.{mul-le-mul}
 use native.Mathlib.Omega.{arith}
 use borrow.Author.Tests.{lt-ltb, le-ltb, eq-eqb, ne-eqb}
-use Rattle.meaning.specs.Refusal.{ground8-cells}
+use Rattle.meaning.specs.Refusal.{ground8-cells, mostColumns, mostInstants}
 use Rattle.trace.proofs.wrong_size.Statement.{statement}
 use Rattle.trace.proofs.wrong_size.Tie as tie
 
 mul-result : tie.Need-mul-result
 mul-result c =
     let a = c .before .before .before .args in
-    omega (arith, mul-le-mul {n₁ = a .width} {m₁ = a .instants} {n₂ = 287} {m₂ = 32} (omega arith) (omega arith))
+    omega (arith, mul-le-mul {n₁ = a .width} {m₁ = a .instants} {n₂ = mostColumns} {m₂ = mostInstants} (omega arith) (omega arith))
 
 pub wrong-size-spec : {M : Type 1} → statement M
 unfolding ground8-cells
