@@ -13,7 +13,7 @@ use lib.Seq.{getD-set-same, getD-set-other}
 use Rattle.meaning.specs.Record.{Use, unused, atomNumber, child, count, mostRecords, names, uses, placesIn}
 use Rattle.meaning.specs.Refusal.{firstOf, ground7}
 use Rattle.meaning.proofs.First.{Clear}
-use Rattle.records.specs.Code.{useOf}
+use Rattle.shapes.specs.Uses.{useOf}
 use Rattle.checks.specs.Places.{fieldGrounds, Places, FieldTaken}
 use Rattle.checks.proofs.Fields.{Read, use-again}
 
@@ -57,9 +57,9 @@ module _ {s old : List ℕ} {A r u v : ℕ} (size : length old ≡ mostRecords) 
       go i l (no q) = rw (getD-set-other old v i n 0 (λ z. q (sym z)), names-other (useOf u) v i q) (omega arith)
 
 -- ---- record after record
-pub none : {s : List ℕ} → Places s 0 (replicate 255 0)
+pub none : {s : List ℕ} → Places s 0 (replicate mostRecords 0)
 unfolding placesIn
-none = record { size = refl; counted = λ i h. getD-replicate 255 i 0 0 h }
+none = record { size = refl; counted = λ i h. getD-replicate mostRecords i 0 0 h }
 
 pub more : {s old mid new : List ℕ} {A r ua ub a b x y : ℕ} → Read s r ua ub a b
     → Places s r old → FieldTaken s A r ua a old mid x → FieldTaken s A r ub b mid new y → x ≡ 0 → y ≡ 0

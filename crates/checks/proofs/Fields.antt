@@ -1,5 +1,5 @@
 -- What a field's number says. A field's use is one of four, numbered 0 to 3, and a use that is a child's has the number of
--- the child's sort. So the first condition on a field is told by the number: for a child, that it is late, and then that
+-- the child's sort. So the number says what the first condition on a field is: for a child, that it is late, and then that
 -- its sort has another number.
 use Prim.Native.Nat.{ℕ, zero, suc, _≤_}
 use mathlib.Core.Path.{_≡_, refl}
@@ -9,7 +9,7 @@ use lib.Dec.{leb, eqb}
 use native.Mathlib.Omega.{arith}
 use Rattle.meaning.specs.Record.{Sort, Use, formula, path, unused, atomNumber, child, kindAt, sortOf, useA, useB, fieldA, fieldB}
 use Rattle.meaning.specs.Refusal.{firstOf, stray, late, beyond, misfit, differ}
-use Rattle.records.specs.Code.{sortCode, useCode, useOf}
+use Rattle.shapes.specs.Uses.{sortCode, useCode, useOf}
 use Rattle.checks.specs.Places.{fieldGrounds}
 
 pub use-again : (u : Use) → useOf (useCode u) ≡ u

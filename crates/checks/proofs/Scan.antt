@@ -12,7 +12,7 @@ use Rattle.meaning.specs.Run.{each}
 use Rattle.meaning.specs.Record.{formula, sortOf, kindOf, kindByte, kindAt, count}
 use Rattle.meaning.specs.Refusal.{firstOf, ground2, ground3, ground4, ground5, ground6, ground6-last, ground7, recordGrounds, treeGrounds}
 use Rattle.meaning.proofs.First.{Numbered, none-clear, clear-skip, found-stop, numbered-each}
-use Rattle.records.specs.Code.{sortCode}
+use Rattle.shapes.specs.Uses.{sortCode}
 use Rattle.checks.proofs.Fields.{differ-code}
 
 pub record-numbered : (full : Bool) (s : List ℕ) (A r : ℕ) → Numbered (recordGrounds full s A r)
@@ -38,9 +38,9 @@ module _ (full : Bool) (s : List ℕ) (A : ℕ) where
   tree-after {n} {kind} {t} none size at-last sort =
       let records = each (count s) (recordGrounds full s A) in
       let clear = none-clear records (numbered-each _ (count s) (record-numbered full s A)) none in
-      let told : t ≡ sortCode (sortOf (kindAt s (pred (count s)))) = sort ∙ rw (at-last, size, sub-one) in
+      let read : t ≡ sortCode (sortOf (kindAt s (pred (count s)))) = sort ∙ rw (at-last, size, sub-one) in
       let two : sortCode formula ≡ 2 = unfold sortCode in refl in
       record {
-        last = λ q. rw (clear-skip records _ clear, differ-code, ← told, two, ne-eqb t 2 q);
-        places = λ e. rw (clear-skip records _ clear, differ-code, ← told, two, eq-eqb t 2 e);
+        last = λ q. rw (clear-skip records _ clear, differ-code, ← read, two, ne-eqb t 2 q);
+        places = λ e. rw (clear-skip records _ clear, differ-code, ← read, two, eq-eqb t 2 e);
       }

@@ -5,11 +5,10 @@ ghost use mathlib.Core.List.{[], _∷_};
 ghost use Prim.Native.Nat.{pred, min, _+_, _<_, _≤_};
 ghost use lib.ListN.{length};
 ghost use Rattle.meaning.specs.Run.{each};
-ghost use Rattle.meaning.specs.Record.{count, mostRecords};
+ghost use Rattle.meaning.specs.Record.{count, mostRecords, kindByte};
 ghost use Rattle.meaning.specs.Refusal.{firstOf, ground1, ground7, ground8, recordGrounds, treeGrounds, formulaGrounds};
-ghost use Rattle.checks.specs.Places.{Places, FieldTaken, Taken};
+ghost use Rattle.checks.specs.Places.{Places, FieldTaken, Taken, sooner, fieldsGrounds};
 use records::layout;
-use records::shape;
 
 // In how many places each record is the child; more than one is as good as two.
 type Counts = [u8; layout::MOST_RECORDS];
@@ -53,14 +52,14 @@ fn field_refusal(s: &[u8], atoms: u64, counts: &mut Counts, r: usize, u: u8, v: 
     ensures { λ x. ⌜ FieldTaken (now (s .entry)) atoms r u v (now (counts .entry)) (now (counts .exit)) x ⌝ }
 {
     // 3: an unused field that isn't zero.
-    if u == shape::UNUSED {
+    if u == shapes::UNUSED {
         if v != 0 {
             return refusals::NOT_ZERO;
         }
         return refusals::ACCEPTED;
     }
     // 5: an atom number that is too large.
-    if u == shape::ATOM_NUMBER {
+    if u == shapes::ATOM_NUMBER {
         if atoms <= v as u64 {
             return refusals::NO_SUCH_ATOM;
         }
@@ -71,7 +70,7 @@ fn field_refusal(s: &[u8], atoms: u64, counts: &mut Counts, r: usize, u: u8, v: 
         return refusals::LATE_CHILD;
     }
     // 6: a child of the wrong sort.
-    if shape::sort_of(layout::kind_at(s, v)) != u {
+    if shapes::sort_of(layout::kind_at(s, v)) != u {
         return refusals::WRONG_SORT;
     }
     counts[v] = one_more(counts[v]);
@@ -79,24 +78,10 @@ fn field_refusal(s: &[u8], atoms: u64, counts: &mut Counts, r: usize, u: u8, v: 
 }
 
 // ---- one record
-// The first of 2 to 6 that applies to record r; of the fields' refusals that is the lesser. If none does, its children are counted.
-fn record_refusal(s: &[u8], full: bool, atoms: u64, counts: &mut Counts, r: usize) -> u8
-    requires { ⌜ (r < count (now s)) × (count (now s) ≤ mostRecords) × Places (now s) r (now counts) ⌝ }
-    ensures { λ x. ⌜ Taken (recordGrounds full (now (s .entry)) atoms r) (now (s .entry)) (r + 1) (now (counts .exit)) x ⌝ }
+// Of two refusals the one with the lesser number; 0 is none.
+fn sooner(x: u8, y: u8) -> u8
+    ensures { λ z. ⌜ z ≡ sooner x y ⌝ }
 {
-    let kind = layout::kind_at(s, r);
-    if !shape::takes(full, kind) {
-        return refusals::UNKNOWN_KIND;
-    }
-    if layout::zero_at(s, r) != 0 {
-        return refusals::NOT_ZERO;
-    }
-    let ua = shape::use_a(kind);
-    let ub = shape::use_b(kind);
-    let a = layout::field_a(s, r);
-    let b = layout::field_b(s, r);
-    let x = field_refusal(s, atoms, counts, r, ua, a);
-    let y = field_refusal(s, atoms, counts, r, ub, b);
     if x == refusals::ACCEPTED {
         return y;
     }
@@ -107,6 +92,35 @@ fn record_refusal(s: &[u8], full: bool, atoms: u64, counts: &mut Counts, r: usiz
         return x;
     }
     y
+}
+
+// The first of 3 to 6 that applies to a field of record r. If none does, its children are counted.
+fn fields_refusal(s: &[u8], atoms: u64, counts: &mut Counts, r: usize, kind: u8) -> u8
+    requires { ⌜ (r < count (now s)) × (count (now s) ≤ mostRecords) × (kind ≡ kindByte (now s) r) × Places (now s) r (now counts) ⌝ }
+    ensures { λ x. ⌜ Taken (fieldsGrounds (now (s .entry)) atoms r) (now (s .entry)) (r + 1) (now (counts .exit)) x ⌝ }
+{
+    let ua = shapes::use_a(kind);
+    let ub = shapes::use_b(kind);
+    let a = layout::field_a(s, r);
+    let b = layout::field_b(s, r);
+    let x = field_refusal(s, atoms, counts, r, ua, a);
+    let y = field_refusal(s, atoms, counts, r, ub, b);
+    sooner(x, y)
+}
+
+// The first of 2 to 6 that applies to record r. If none does, its children are counted.
+fn record_refusal(s: &[u8], full: bool, atoms: u64, counts: &mut Counts, r: usize) -> u8
+    requires { ⌜ (r < count (now s)) × (count (now s) ≤ mostRecords) × Places (now s) r (now counts) ⌝ }
+    ensures { λ x. ⌜ Taken (recordGrounds full (now (s .entry)) atoms r) (now (s .entry)) (r + 1) (now (counts .exit)) x ⌝ }
+{
+    let kind = layout::kind_at(s, r);
+    if !shapes::takes(full, kind) {
+        return refusals::UNKNOWN_KIND;
+    }
+    if layout::zero_at(s, r) != 0 {
+        return refusals::NOT_ZERO;
+    }
+    fields_refusal(s, atoms, counts, r, kind)
 }
 
 // ---- all records
@@ -154,7 +168,7 @@ pub fn tree_refusal(s: &[u8], full: bool, atoms: u64) -> u8
         return x;
     }
     let last = layout::record_count(s) - 1;
-    if shape::sort_of(layout::kind_at(s, last)) != shape::FORMULA {
+    if shapes::sort_of(layout::kind_at(s, last)) != shapes::FORMULA {
         return refusals::WRONG_SORT;
     }
     places_refusal(s, &counts)

@@ -4,4 +4,4 @@ pub mod Sized
 pub mod Row
 pub mod Parts
 pub mod Writing
-pub mod Answering
+pub mod SizeGrounds

@@ -13,7 +13,7 @@ use Rattle.meaning.specs.WellFormed.{Fits}
 use Rattle.meaning.proofs.Fails.{and-holds}
 use Rattle.meaning.proofs.Nodes.{tree-of}
 use Rattle.expand.specs.Steps.{oneChild, noChild, atomStep, partA, byte, stepsOf, fieldFrom, fieldSize, ownKind, ownA, ownB, partOf, partUse, stepFrom, stepSize}
-use Rattle.expand.specs.Asking.{Asked, bytesAt, sizeAt, stepBytes, stepCount, isChild, isAtom, fits, many}
+use Rattle.expand.specs.Expanding.{Expandable, bytesAt, sizeAt, stepBytes, stepCount, isChild, isAtom, fits, many}
 use Rattle.expand.proofs.Stepping.{stepsFrom, node-from}
 use Rattle.expand.proofs.Sized.{stepsSize, node-size}
 
@@ -41,7 +41,7 @@ module _ (s : List ℕ) (r : ℕ) where
   abbrev pub rowCount : List ℕ → ℕ
   rowCount = stepsSize (kindAt s r) (fieldA s r) (fieldB s r) (treeAt s)
 
-module _ {s : List ℕ} {r : ℕ} (w : Asked s r) where
+module _ {s : List ℕ} {r : ℕ} (w : Expandable s r) where
   -- ---- all steps: the record's tree
   pub bytes-stepped : (n : ℕ) → bytesAt s r n ≡ rowBytes s r (stepsOf (kindAt s r)) n n
   bytes-stepped n =
@@ -72,8 +72,8 @@ module _ {s : List ℕ} {r : ℕ} (w : Asked s r) where
       child-fits : (q < r) × (sortOf (kindAt s q) ≡ held .0)
       child-fits = rw (held .1) at field-fits
 
-      pub part-asked : (q < r) × Asked s q
-      part-asked =
+      pub part-expandable : (q < r) × Expandable s q
+      part-expandable =
           let (l, _) = child-fits in
           (l, record { atoms = w .atoms; formed = w .formed; index = omega (arith, w .index) })
 

@@ -13,7 +13,7 @@ use Rattle.meaning.specs.Tree.{modalNumber, moveNumber}
 use Rattle.meaning.proofs.Fails.{and-holds}
 use Rattle.records.proofs.Ranges.{onward}
 use Rattle.expand.specs.Steps.{partA, byte, formSteps, pathSteps, stepsOf, digits, rowOf, partUse}
-use Rattle.expand.specs.Asking.{isChild, isAtom, fits}
+use Rattle.expand.specs.Expanding.{isChild, isAtom, fits}
 
 -- Every step of the list fits the kind.
 unfoldable pub allFit : Kind → List ℕ → Bool
@@ -59,13 +59,13 @@ pub rest-none : {K : Kind} {rest : ℕ} (g : Rest K rest) → rest ≡ 1 → g .
 rest-none g e = none-left (g .left) (sym e ∙ g .row)
 
 -- A step and the rest after it.
-pub record Read (K : Kind) (rest : ℕ) (ds : List ℕ) : Type 0 where
+pub record FirstStep (K : Kind) (rest : ℕ) (ds : List ℕ) : Type 0 where
   pub fit : fits K (rest % byte) ≡ true
   pub less : rest / byte < rest
   pub past : Rest K (rest / byte)
   pub all : ds ≡ rest % byte ∷ past .left
 
-read-row : {K : Kind} {rest : ℕ} (ds : List ℕ) → rest ≡ digits ds → allFit K ds ≡ true → (rest ≡ 1 → ⊥) → Read K rest ds
+read-row : {K : Kind} {rest : ℕ} (ds : List ℕ) → rest ≡ digits ds → allFit K ds ≡ true → (rest ≡ 1 → ⊥) → FirstStep K rest ds
 unfolding digits allFit
 read-row [] e h n = absurd (n e)
 read-row {K} {rest} (d ∷ ds) e h n =
@@ -79,5 +79,5 @@ read-row {K} {rest} (d ∷ ds) e h n =
       all = rw digit;
     }
 
-pub rest-read : {K : Kind} {rest : ℕ} (g : Rest K rest) → (rest ≡ 1 → ⊥) → Read K rest (g .left)
+pub rest-read : {K : Kind} {rest : ℕ} (g : Rest K rest) → (rest ≡ 1 → ⊥) → FirstStep K rest (g .left)
 rest-read g n = read-row (g .left) (g .row) (g .fit) n

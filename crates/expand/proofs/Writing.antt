@@ -14,10 +14,10 @@ use Rattle.meaning.specs.Record.{kindAt, fieldA, fieldB, recordSize, mostRecord
 use Rattle.meaning.specs.Tree.{treeAt}
 use Rattle.meaning.proofs.Stores.{sets-append}
 use Rattle.expand.specs.Steps.{noChild, byte, rowOf, nextUnder}
-use Rattle.expand.specs.Asking.{Asked, bytesAt, sizeAt, stepBytes, stepCount, fits, many, Wrote}
+use Rattle.expand.specs.Expanding.{Expandable, bytesAt, sizeAt, stepBytes, stepCount, fits, many, Wrote}
 use Rattle.expand.proofs.Stepping.{stepsFrom}
 use Rattle.expand.proofs.Sized.{step-length, stepsSize}
-use Rattle.expand.proofs.Row.{Rest, rest-all, rest-none, Read, rest-read}
+use Rattle.expand.proofs.Row.{Rest, rest-all, rest-none, FirstStep, rest-read}
 use Rattle.expand.proofs.Parts.{rowBytes, rowCount, bytes-stepped, size-stepped}
 
 -- `done` was written from number `from` on, and the steps that are left write the rest of the tree.
@@ -48,7 +48,7 @@ stops : (n x y : ℕ) → min many (min many (n + x) + y) ≡ min many (n + (x +
 stops n x y = omega arith
 
 module _ {s : List ℕ} {r from : ℕ} {old : List ℕ} where
-  pub going-none : {rest : ℕ} → Asked s r → from ≤ many → rest ≡ rowOf (kindAt s r) → Going s r from old rest from from old
+  pub going-none : {rest : ℕ} → Expandable s r → from ≤ many → rest ≡ rowOf (kindAt s r) → Going s r from old rest from from old
   going-none w h e = record {
     steps = rest-all _ e;
     low = h;
@@ -71,7 +71,7 @@ module _ {s : List ℕ} {r from : ℕ} {old : List ℕ} where
         }
 
     module _ (more : rest ≡ 1 → ⊥) where
-      next : Read (kindAt s r) rest (g .steps .left)
+      next : FirstStep (kindAt s r) rest (g .steps .left)
       next = rest-read (g .steps) more
 
       pub going-less : rest / byte < rest

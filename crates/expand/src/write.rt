@@ -6,7 +6,7 @@ ghost use Prim.Native.Nat.{_*_, _<_, _≤_};
 ghost use lib.ListN.{length, take};
 ghost use lib.Seq.{sets};
 ghost use Rattle.meaning.specs.Record.{recordSize, mostRecords, kindAt};
-ghost use Rattle.expand.specs.Asking.{Asked, bytesAt, sizeAt, stepBytes, stepCount, fits, many, Wrote};
+ghost use Rattle.expand.specs.Expanding.{Expandable, bytesAt, sizeAt, stepBytes, stepCount, fits, many, Wrote};
 use crate::steps;
 use records::layout;
 
@@ -20,7 +20,7 @@ pub fn write_tree(
     buffer: &mut [u8; layout::MOST_BYTES],
     from: usize,
 ) -> usize
-    requires { ⌜ Asked (now records) r × (from ≤ many) ⌝ }
+    requires { ⌜ Expandable (now records) r × (from ≤ many) ⌝ }
     ensures { λ e. ⌜ Wrote (bytesAt (now (records .entry)) r from) from (sizeAt (now (records .entry)) r) (now (buffer .entry)) e (now (buffer .exit)) ⌝ }
 {
     let mut rest = steps::row_of(layout::kind_at(records, r));
@@ -45,7 +45,7 @@ fn write_step(
     buffer: &mut [u8; layout::MOST_BYTES],
     n: usize,
 ) -> usize
-    requires { ⌜ Asked (now records) r × (fits (kindAt (now records) r) step ≡ true) × (under ≤ many) × (n ≤ many) ⌝ }
+    requires { ⌜ Expandable (now records) r × (fits (kindAt (now records) r) step ≡ true) × (under ≤ many) × (n ≤ many) ⌝ }
     ensures { λ e. ⌜ Wrote (stepBytes (now (records .entry)) r step under n) n (stepCount (now (records .entry)) r step) (now (buffer .entry)) e (now (buffer .exit)) ⌝ }
 {
     if steps::PART_A <= step {

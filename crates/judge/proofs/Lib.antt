@@ -1,5 +1,5 @@
 -- What the proofs of several functions cite.
 pub mod Words
-pub mod Places
+pub mod PlaceStretch
 pub mod Scanning
-pub mod Grounds
+pub mod JudgeGrounds

@@ -2,17 +2,17 @@
 -- list is empty so far, and what is found next is then its first, however far the list goes; this serves a rule's
 -- instants and the rules alike.
 use Prim.Native.Nat.{ℕ, zero, suc, _+_, _<_, _≤_}
-use mathlib.Core.Path.{_≡_, refl, sym}
-use mathlib.Core.Bool.{Bool, true, false, cond, not}
+use mathlib.Core.Path.{_≡_, refl}
+use mathlib.Core.Bool.{cond}
 use mathlib.Core.Logic.{⊎-elim}
 use mathlib.Core.List.{List, [], _∷_, _++_}
 use native.Mathlib.Nat.{eq-or-lt-of-le, le-of-suc-le-suc}
 use native.Mathlib.Numerals.{add-one}
 use native.Mathlib.Omega.{arith}
 use Rattle.meaning.specs.Run.{each}
-use Rattle.meaning.specs.Rule.{Rule, ruleAt, placed, holds}
+use Rattle.meaning.specs.Rule.{ruleAt}
 use Rattle.meaning.specs.Judge.{Verdict, yes, no, ruleCount, failsAt, failures, firstFailure, verdict}
-use Rattle.judge.proofs.Places.{Stretch}
+use Rattle.judge.specs.Filled.{FirstWhere}
 
 first-stays : (xs ys : List Verdict) {i k : ℕ} → firstFailure xs ≡ no i k → firstFailure (xs ++ ys) ≡ no i k
 unfolding firstFailure
@@ -58,31 +58,16 @@ module _ (ws : List ℕ) (L : ℕ) (cell : ℕ → ℕ → ℕ) where
   abbrev pub rule-failing : ℕ → List Verdict
   rule-failing i = each L (failing i)
 
-  -- A rule fails at no instant that its place doesn't have, and at one that it has if it doesn't hold.
-  module _ (i : ℕ) {a b : ℕ} (w : Stretch L (placed L (ruleAt ws i .place)) a b) where
-    skipped : (k : ℕ) → placed L (ruleAt ws i .place) k ≡ false → failing i k ≡ []
-    unfolding failsAt
-    skipped k e = rw e
+  module _ (i : ℕ) {k : ℕ} (first : FirstWhere L (failsAt L cell (ruleAt ws i)) k) where
+    none-before : each k (failing i) ≡ []
+    none-before = on (failing i) k 0 (omega arith) (none _) (λ j _ l. rw (first .before j l))
 
-    pub starting : each a (failing i) ≡ []
-    starting = on (failing i) a 0 (omega arith) (none _) (λ j _ l. skipped j (w .before j l))
+    pub instants-pass : L ≤ k → rule-failing i ≡ []
+    instants-pass h = done (failing i) L k (omega (arith, first .bound)) none-before
 
-    pub ending : (q : ℕ) → q ≡ b → each q (failing i) ≡ [] → rule-failing i ≡ []
-    ending q e d = on (failing i) L q (omega (arith, w .last)) d (λ j h l. skipped j (w .past j (omega arith) l))
-
-    module _ (k : ℕ) (h : a ≤ k) (l : k < b) {ρ : Rule} {t : Bool} (r : ρ ≡ ruleAt ws i) (test : t ≡ not (holds cell ρ k)) where
-      tested : failsAt L cell (ruleAt ws i) k ≡ t
-      unfolding failsAt
-      tested = rw (w .within k h l, ← r) (sym test)
-
-      pub holding : t ≡ false → failing i k ≡ []
-      holding e = rw (tested, e)
-
-      pub says-no : i < ruleCount ws → each i rule-failing ≡ [] → each k (failing i) ≡ [] → t ≡ true
-          → verdict ws L cell ≡ no i k
-      unfolding verdict failures firstFailure
-      says-no m rules instants e =
-          found rule-failing (ruleCount ws) i m rules (found (failing i) L k (omega (arith, w .last)) instants (rw (tested, e)))
+    pub says-no : i < ruleCount ws → each i rule-failing ≡ [] → k < L → verdict ws L cell ≡ no i k
+    unfolding verdict failures firstFailure
+    says-no m rules l = found rule-failing (ruleCount ws) i m rules (found (failing i) L k l none-before (rw (first .there l)))
 
   pub says-yes : (i : ℕ) → i ≡ ruleCount ws → each i rule-failing ≡ [] → verdict ws L cell ≡ yes
   unfolding verdict failures firstFailure

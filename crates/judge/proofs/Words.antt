@@ -1,18 +1,18 @@
 -- The words of a rule. Row k of the cells ends before row k + 1 begins, so a symbol below 2 + W has its cell in the trace.
--- A rule's form is six tests in turn, its place and its five literals; if none holds, each literal's symbol is below 2 + W.
+-- Of a rule in form, each literal's symbol is below 2 + W.
 -- At an instant of its place a rule fails where its body is worth more than its head.
 use Prim.Native.Nat.{ℕ, zero, suc, _+_, _*_, _-_, _<_, _≤_, min}
 use mathlib.Core.Path.{_≡_, refl, sym, ap, _∙_}
-use mathlib.Core.Bool.{Bool, true, false, not, _||_, or-assoc, or-false, true≢false}
-use mathlib.Core.List.{List, [], _∷_}
+use mathlib.Core.Bool.{Bool, true, false, not, true≢false}
+use mathlib.Core.List.{List}
 use mathlib.Core.Logic.{_⊎_, inl, inr}
-use native.Mathlib.Nat.{add-zero, mul-suc, mul-le-mul-left}
+use native.Mathlib.Nat.{mul-suc, mul-le-mul-left}
 use native.Mathlib.Omega.{arith}
-use lib.ListN.{length, getD}
+use lib.ListN.{length}
 use lib.Dec.{ltb}
 use borrow.Author.Tests.{ltb-true, ltb-false}
 use Rattle.meaning.specs.Run.{cellOf}
-use Rattle.meaning.specs.Rule.{Rule, ruleAt, ruleWord, ruleSize, symbolOf, symbolValue, literal, bodyValue, headValue, holds}
+use Rattle.meaning.specs.Rule.{Rule, symbolOf, symbolValue, literal, bodyValue, headValue, holds}
 use Rattle.meaning.specs.Refusal.{badLiteral, badRule}
 use Rattle.meaning.proofs.Fails.{tests}
 use Rattle.meaning.proofs.Holding.{rule-holds}
@@ -29,43 +29,18 @@ pub in-row : (W k L : ℕ) {i : ℕ} → k < L → i < W → W * k + i < W * L
 in-row W k L h l = omega (arith, rw mul-suc at (mul-le-mul-left W h))
 
 -- ---- forms
--- Whether one of the tests holds.
-unfoldable pub some : List Bool → Bool
-some [] = false
-some (t ∷ ts) = t || some ts
-
--- One test: it decides, or the rest does; t is the test as the code made it.
-module _ {b t : Bool} (u : Bool) (us : List Bool) (any : b ≡ some (u ∷ us)) (test : t ≡ u) where
-  pub stop : t ≡ true → true ≡ b
-  unfolding some
-  stop e = sym (any ∙ rw (sym test ∙ e))
-
-  pub pass : t ≡ false → b ≡ some us
-  unfolding some
-  pass e = any ∙ rw (sym test ∙ e)
-
-abbrev pub ruleTests : ℕ → List ℕ → ℕ → List Bool
-ruleTests W ws i =
-    let bad : ℕ → Bool = λ j. badLiteral W (getD ws (ruleSize * i) 0) (ruleWord ws i j) in
-    ltb 3 (getD ws (ruleSize * i) 0) ∷ bad 1 ∷ bad 2 ∷ bad 3 ∷ bad 4 ∷ bad 5 ∷ []
-
-pub test-by-test : (W : ℕ) (ws : List ℕ) (i : ℕ) → badRule W (ruleAt ws i) ≡ some (ruleTests W ws i)
-unfolding badRule ruleAt some
-test-by-test W ws i = simp (add-zero, or-assoc, or-false)
-
 -- What looking up a literal asks, of each literal of a rule.
-pub may-look : (ρ : Rule) {W L : ℕ} {cells : List ℕ} {k : ℕ} → Lookable ρ W L cells k
+pub may-look : (ρ : Rule) {W L : ℕ} {cells : List ℕ} {k : ℕ} → Lookable ρ W L cells × (k < L)
     → let Look : ℕ → Type 0 = λ w. (symbolOf w < 2 + W) × (k < L) × (length cells ≡ W * L) in
     Look (ρ .body1) × Look (ρ .body2) × Look (ρ .head1) × Look (ρ .head2) × Look (ρ .head3)
 unfolding badRule badLiteral
-may-look ρ f =
+may-look ρ (f, l) =
     let e = simp tests at (f .form) in
-    let l = f .instant in
     let s = f .size in
     ((e .0 .0 .0 .0 .1 .0, l, s), (e .0 .0 .0 .1 .0, l, s), (e .0 .0 .1 .0, l, s), (e .0 .1 .0, l, s), (e .1 .0, l, s))
 
 -- ---- failing, by the values as the code made them
-module _ (ρ : Rule) {W L : ℕ} {cells : List ℕ} {k : ℕ} (f : Lookable ρ W L cells k) where
+module _ (ρ : Rule) (k : ℕ) {W L : ℕ} {cells : List ℕ} (f : Lookable ρ W L cells) where
   abbrev value : ℕ → ℕ
   value w = literal (cellOf W cells) w k
 

@@ -5,16 +5,19 @@ ghost use lib.ListN.{length};
 ghost use Rattle.meaning.specs.Run.{cellOf};
 ghost use Rattle.meaning.specs.Rule.{symbolOf, isPrevious, isNegated, symbolValue, plain, literal};
 ghost use Rattle.judge.specs.Filled.{startOf, endOf};
+use rules::FALSE;
 use rules::FIRST;
+use rules::FIRST_COLUMN;
 use rules::LAST;
 use rules::LATER;
 use rules::NEGATED;
 use rules::PREVIOUS;
+use rules::TRUE;
 
-pub fn symbol(word: u16) -> usize
+pub fn symbol(word: u16) -> u16
     ensures { λ s. ⌜ s ≡ symbolOf word ⌝ }
 {
-    (word % PREVIOUS) as usize
+    word % PREVIOUS
 }
 
 pub fn is_previous(word: u16) -> bool
@@ -84,16 +87,16 @@ fn before(k: usize) -> usize
     k - 1
 }
 
-// The value of a symbol: 0 false, 1 true, 2 + i column i.
-fn symbol_at(symbol: usize, width: usize, l: usize, cells: &[u8], k: usize) -> u8
+// The value of a symbol: that of a constant, or a column's cell.
+fn symbol_at(symbol: u16, width: usize, l: usize, cells: &[u8], k: usize) -> u8
     requires { ⌜ (symbol < 2 + width) × (k < l) × (length (now cells) ≡ width * l) ⌝ }
     ensures { λ v. ⌜ v ≡ symbolValue (cellOf width (now (cells .entry))) symbol k ⌝ }
 {
-    if symbol == 0 {
+    if symbol == FALSE {
         return 0;
     }
-    if symbol == 1 {
+    if symbol == TRUE {
         return 2;
     }
-    cells[width * k + (symbol - 2)]
+    cells[width * k + (symbol - FIRST_COLUMN) as usize]
 }

@@ -16,7 +16,7 @@ use denote.Triple.Clauses.{Lasts, atExit}
 use borrow.Fn.Kinds.{PK, RK, Dens, Out, resT, endedOf}
 use Rattle.three.proofs as three
 use Rattle.records.proofs.layout as layout
-use Rattle.records.proofs.shape as shape
+use Rattle.shapes.proofs as shapes
 use Rattle.checks.proofs as checks
 use Rattle.checks.proofs.refusal as refusal
 use Rattle.paths.proofs.stars as stars
@@ -66,10 +66,11 @@ pub record OneOutcome : Type 0 where
   pub field-b : OneFits layout.field_b.Kinds.ps layout.field_b.Kinds.r layout.field_b.Reads.Post
   pub zero-at : OneFits layout.zero_at.Kinds.ps layout.zero_at.Kinds.r layout.zero_at.Reads.Post
   pub put-record : OneFits layout.put_record.Kinds.ps layout.put_record.Kinds.r layout.put_record.Reads.Post
-  pub use-a : OneFits shape.use_a.Kinds.ps shape.use_a.Kinds.r shape.use_a.Reads.Post
-  pub use-b : OneFits shape.use_b.Kinds.ps shape.use_b.Kinds.r shape.use_b.Reads.Post
-  pub sort-of : OneFits shape.sort_of.Kinds.ps shape.sort_of.Kinds.r shape.sort_of.Reads.Post
-  pub takes : OneFits shape.takes.Kinds.ps shape.takes.Kinds.r shape.takes.Reads.Post
+  -- shapes
+  pub use-a : OneFits shapes.use_a.Kinds.ps shapes.use_a.Kinds.r shapes.use_a.Reads.Post
+  pub use-b : OneFits shapes.use_b.Kinds.ps shapes.use_b.Kinds.r shapes.use_b.Reads.Post
+  pub sort-of : OneFits shapes.sort_of.Kinds.ps shapes.sort_of.Kinds.r shapes.sort_of.Reads.Post
+  pub takes : OneFits shapes.takes.Kinds.ps shapes.takes.Kinds.r shapes.takes.Reads.Post
   -- checks
   pub wrong-length : OneFits refusal.wrong_length.Kinds.ps refusal.wrong_length.Kinds.r refusal.wrong_length.Reads.Post
   pub tree-refusal : OneFits refusal.tree_refusal.Kinds.ps refusal.tree_refusal.Kinds.r refusal.tree_refusal.Reads.Post

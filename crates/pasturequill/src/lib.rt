@@ -4,10 +4,10 @@ ghost use mathlib.Core.Path.{_≡_};
 ghost use lib.ListN.{length};
 ghost use Rattle.meaning.specs.Service.{checkAnswer, expandAnswer, expandAfter, valueAnswer, valueAfter, translateAnswer, translateAfter, judgeAnswer};
 use judge::Judged;
-use translate::Counted;
+use refusals::Counted;
 use value::Valued;
 
-// Check: 0 if the bytes are the records of a formula over so many atoms, else the number of the first refusal that applies.
+// Check: 0 if the bytes are the records of a formula over `atoms` atoms, else the number of the first refusal that applies.
 #[no_mangle]
 pub extern "C" fn pasturequill_check(records: &[u8], atoms: u64) -> u8
     ensures { λ x. ⌜ x ≡ checkAnswer (now (records .entry)) atoms ⌝ }
@@ -17,7 +17,7 @@ pub extern "C" fn pasturequill_check(records: &[u8], atoms: u64) -> u8
 
 // Expand: the number of records of the formula in core kinds, and in the output these records in postorder, six bytes each.
 #[no_mangle]
-pub extern "C" fn pasturequill_expand(records: &[u8], atoms: u64, out: &mut [u8]) -> expand::Counted
+pub extern "C" fn pasturequill_expand(records: &[u8], atoms: u64, out: &mut [u8]) -> Counted
     ensures refusal { λ v. ⌜ v .refusal ≡ expandAnswer (now (records .entry)) atoms (length (now (out .entry))) .refusal ⌝ }
     ensures count { λ v. ⌜ v .count ≡ expandAnswer (now (records .entry)) atoms (length (now (out .entry))) .count ⌝ }
     ensures bytes { λ v. ⌜ now (out .exit) ≡ expandAfter (now (records .entry)) atoms (now (out .entry)) ⌝ }

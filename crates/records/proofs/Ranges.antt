@@ -25,7 +25,7 @@ module _ {B : Type 0} (f : Kind → B) where
       let e : start + (k - start) ≡ k = omega arith in
       rw (getD-drop, e) (by-table (map f kinds) refl k)
 
-  -- One value at so many kinds from a number on.
+  -- One value at `size` kinds from a number on.
   pub stretch : (b : B) (start size : ℕ) → take size (drop start (map f kinds)) ≡ replicate size b
       → (k : ℕ) → start ≤ k → k < start + size → b ≡ f (kindOf k)
   stretch b start size e k h l =

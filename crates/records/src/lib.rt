@@ -1,4 +1,3 @@
-// A formula's records: their bytes, their kinds, and what a kind says. Nothing else knows the layout.
+// A formula's records: their bytes and the names of their kinds. Nothing else knows the layout.
 pub mod kind;
 pub mod layout;
-pub mod shape;

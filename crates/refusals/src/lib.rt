@@ -1,4 +1,4 @@
-// The numbers of refusals.
+// What services give back: the numbers of refusals, and an answer with a count.
 pub const ACCEPTED: u8 = 0;
 
 pub const WRONG_LENGTH: u8 = 1;
@@ -28,3 +28,10 @@ pub const STAR_TURNS: u8 = 12;
 pub const WRONG_RULES: u8 = 13;
 
 pub const TOO_LONG: u8 = 14;
+
+// A refusal, or 0 and how many records or rules were written.
+#[repr(C)]
+pub struct Counted {
+    pub refusal: u8,
+    pub count: u64,
+}

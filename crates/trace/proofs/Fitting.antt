@@ -7,13 +7,13 @@ use mathlib.Core.List.{List}
 use mathlib.Core.Logic.{⊎-elim}
 use native.Mathlib.Omega.{arith}
 use lib.ListN.{length, getD, List·getD-eq-default}
-use Rattle.meaning.specs.Refusal.{ground8-cells, grounds9}
+use Rattle.meaning.specs.Refusal.{ground8-cells, grounds9, mostInstants}
 use Rattle.meaning.proofs.Bounds.{le-or-lt}
 use Rattle.meaning.proofs.Fails.{tests}
 use Rattle.meaning.proofs.First.{Clear, Numbered, numbered-each, clear-each}
 
 pub size-fits : (most W L : ℕ) (cells : List ℕ) → ground8-cells most W L cells .applies ≡ false
-    → (W ≤ most) × (0 < L) × (L ≤ 32) × (length cells ≡ W * L)
+    → (W ≤ most) × (0 < L) × (L ≤ mostInstants) × (length cells ≡ W * L)
 unfolding ground8-cells
 size-fits most W L cells e = let h = simp tests at e in (omega arith, omega arith, omega arith, h .1)
 

@@ -6,14 +6,8 @@ ghost use Rattle.meaning.specs.Service.{translateAnswer, translateAfter};
 ghost use Rattle.contexts.specs.Contexts.{contextsOf};
 use contexts::Contexts;
 use records::layout;
+use refusals::Counted;
 use rules::RULE_SIZE;
-
-// The refusal, or 0 and the number of rules.
-#[repr(C)]
-pub struct Counted {
-    pub refusal: u8,
-    pub count: u64,
-}
 
 // The first refusal that applies; or the rules of the formula, six words each.
 pub fn translate(records: &[u8], atoms: u64, out: &mut [u16]) -> Counted

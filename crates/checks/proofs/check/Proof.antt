@@ -5,9 +5,6 @@ use Rattle.meaning.specs.Service.{checkAnswer}
 use Rattle.checks.proofs.check.Statement.{statement}
 use Rattle.checks.proofs.check.Tie as tie
 
-returns : tie.Need-returns
-unfolding checkAnswer checkGrounds
-returns c = c .formula-refusal .ensures
-
 pub check-spec : {M : Type 1} → statement M
-check-spec = tie.close (tie.spec (λ c κs. search needs) returns)
+unfolding checkAnswer checkGrounds
+check-spec = tie.close (tie.spec (λ c κs. search needs) (λ c. c .formula-refusal .ensures))

@@ -5,37 +5,19 @@ use borrow.Author.Needs.{needs}
 use Rattle.judge.proofs.fails_at.Statement.{statement}
 use Rattle.judge.proofs.fails_at.Tie as tie
 
-literal-at-requires : tie.Need-literal-at-requires
-literal-at-requires c κs = may-look _ (c .before .pre) .0
-
-returns : tie.Need-returns
-returns c = by-body _ (c .before .before .before .pre) (c .before .literal-at .ensures) (c .if1 .taken)
-
-literal-at-requires-2 : tie.Need-literal-at-requires-2
-literal-at-requires-2 c κs = may-look _ (c .before .before .before .pre) .1
-
-literal-at-requires-3 : tie.Need-literal-at-requires-3
-literal-at-requires-3 c κs = may-look _ (c .before .before .before .before .before .pre) .2
-
 returns-2 : tie.Need-returns-2
 returns-2 c =
     let body = c .before .before in
     let first = body .before .before .before in
-    by-head _ (first .before .before .pre) (first .literal-at .ensures) (body .before .literal-at2 .ensures) (body .least .ensures)
+    by-head _ _ (first .before .before .pre .0) (first .literal-at .ensures) (body .before .literal-at2 .ensures) (body .least .ensures)
     (inl (c .before .literal-at3 .ensures)) (c .if2 .taken)
-
-literal-at-requires-4 : tie.Need-literal-at-requires-4
-literal-at-requires-4 c κs = may-look _ (c .before .before .before .before .before .before .before .pre) .3
 
 returns-3 : tie.Need-returns-3
 returns-3 c =
     let body = c .before .before .before .before in
     let first = body .before .before .before in
-    by-head _ (first .before .before .pre) (first .literal-at .ensures) (body .before .literal-at2 .ensures) (body .least .ensures)
+    by-head _ _ (first .before .before .pre .0) (first .literal-at .ensures) (body .before .literal-at2 .ensures) (body .least .ensures)
     (inr (c .before .literal-at4 .ensures)) (c .if3 .taken)
-
-literal-at-requires-5 : tie.Need-literal-at-requires-5
-literal-at-requires-5 c κs = may-look _ (c .before .before .before .before .before .before .before .before .before .pre) .4
 
 returns-4 : tie.Need-returns-4
 returns-4 c =
@@ -43,7 +25,7 @@ returns-4 c =
     let head = second .before .before in
     let body = head .before in
     let first = body .before .before .before in
-    by-last _ (first .before .before .pre) (first .literal-at .ensures) (body .before .literal-at2 .ensures) (body .least .ensures)
+    by-last _ _ (first .before .before .pre .0) (first .literal-at .ensures) (body .before .literal-at2 .ensures) (body .least .ensures)
     (head .literal-at3 .ensures) (second .literal-at4 .ensures) (c .literal-at5 .ensures) (second .before .if2 .left)
     (c .before .if3 .left)
 
@@ -51,13 +33,13 @@ pub fails-at-spec : {M : Type 1} → statement M
 fails-at-spec =
     tie.close
     (tie.spec
-    literal-at-requires
-    returns
-    literal-at-requires-2
+    (λ c κs. may-look _ (c .before .pre) .0)
+    (λ c. by-body _ _ (c .before .before .before .pre .0) (c .before .literal-at .ensures) (c .if1 .taken))
+    (λ c κs. may-look _ (c .before .before .before .pre) .1)
     (λ c κs. search needs)
-    literal-at-requires-3
+    (λ c κs. may-look _ (c .before .before .before .before .before .pre) .2)
     returns-2
-    literal-at-requires-4
+    (λ c κs. may-look _ (c .before .before .before .before .before .before .before .pre) .3)
     returns-3
-    literal-at-requires-5
+    (λ c κs. may-look _ (c .before .before .before .before .before .before .before .before .before .pre) .4)
     returns-4)

@@ -4,7 +4,7 @@ use mathlib.Core.Bool.{false}
 use borrow.Author.Needs.{needs}
 use Rattle.meaning.specs.Refusal.{ground8-cells, mostColumns}
 use Rattle.trace.proofs.Fitting.{size-fits}
-use Rattle.judge.proofs.Grounds.{refused-8, refused-13, cells-decide}
+use Rattle.judge.proofs.JudgeGrounds.{refused-8, refused-13, cells-decide}
 use Rattle.judge.proofs.first_refusal.Statement.{statement}
 use Rattle.judge.proofs.first_refusal.Tie as tie
 
@@ -13,15 +13,6 @@ fits : (c : tie.Else1)
     → let a = c .before .before .before .before .args in
     ground8-cells mostColumns (a .width) (a .instants) (a .cells .now) .applies ≡ false
 fits c = sym (c .before .wrong-size .ensures) ∙ c .if1 .left
-
-returns : tie.Need-returns
-returns c = refused-8 _ _ _ _ (sym (c .before .wrong-size .ensures) ∙ c .if1 .taken)
-
-rules-refusal-requires : tie.Need-rules-refusal-requires
-rules-refusal-requires c κs = size-fits _ _ _ _ (fits c) .0
-
-returns-2 : tie.Need-returns-2
-returns-2 c = refused-13 _ _ _ _ (fits (c .before .before)) (c .before .rules-refusal .ensures) (c .if2 .taken)
 
 returns-3 : tie.Need-returns-3
 returns-3 c =
@@ -34,8 +25,7 @@ first-refusal-spec =
     tie.close
     (tie.spec
     (λ c κs. search needs)
-    returns
-    rules-refusal-requires
-    returns-2
-    (λ c κs. search needs)
-    returns-3)
+    (λ c. refused-8 _ _ _ _ (sym (c .before .wrong-size .ensures) ∙ c .if1 .taken))
+    (λ c κs. size-fits _ _ _ _ (fits c) .0)
+    (λ c. refused-13 _ _ _ _ (fits (c .before .before)) (c .before .rules-refusal .ensures) (c .if2 .taken))
+    (λ c κs. search needs) returns-3)

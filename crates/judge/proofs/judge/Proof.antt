@@ -1,9 +1,9 @@
--- `judge` meets its contract: a refusal is the answer, and where there is none the first failure is told.
+-- `judge` meets its contract: a refusal is the answer, and where there is none the first failure is.
 use mathlib.Core.Path.{refl, sym, _∙_}
 use borrow.Author.Tests.{eq-eqb, ne-eqb}
 use borrow.Author.Needs.{needs}
 use Rattle.meaning.specs.Service.{judgeAnswer}
-use Rattle.judge.proofs.Grounds.{filled}
+use Rattle.judge.proofs.JudgeGrounds.{filled}
 use Rattle.judge.proofs.judge.Statement.{statement}
 use Rattle.judge.proofs.judge.Tie as tie
 
@@ -14,16 +14,18 @@ returns c =
     let n = ne-eqb _ _ (λ z. c .if1 .taken (e ∙ z)) in
     rw n (e, (refl, (refl, refl)))
 
-first-failure-requires : tie.Need-first-failure-requires
-first-failure-requires c κs = filled _ _ _ _ (sym (c .before .first-refusal .ensures) ∙ c .if1 .left)
-
 returns-2 : tie.Need-returns-2
 unfolding judgeAnswer
 returns-2 c =
     let else = c .before in
-    let told = c .first-failure .ensures in
+    let found = c .first-failure .ensures in
     rw (eq-eqb _ _ (sym (else .before .first-refusal .ensures) ∙ else .if1 .left))
-    (told .refused, (told .held, (told .failing, told .failed)))
+    (found .refused, (found .held, (found .failing, found .failed)))
 
 pub judge-spec : {M : Type 1} → statement M
-judge-spec = tie.close (tie.spec (λ c κs. search needs) returns first-failure-requires returns-2)
+judge-spec =
+    tie.close
+    (tie.spec
+    (λ c κs. search needs) returns
+    (λ c κs. filled _ _ _ _ (sym (c .before .first-refusal .ensures) ∙ c .if1 .left))
+    returns-2)

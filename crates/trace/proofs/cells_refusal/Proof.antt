@@ -4,11 +4,10 @@ use Rattle.trace.proofs.Highest.{refused-high, passed-low}
 use Rattle.trace.proofs.cells_refusal.Statement.{statement}
 use Rattle.trace.proofs.cells_refusal.Tie as tie
 
-returns : tie.Need-returns
-returns c = refused-high _ (c .before .greatest-cell .ensures) (c .if1 .taken)
-
-returns-2 : tie.Need-returns-2
-returns-2 c = passed-low _ (c .before .greatest-cell .ensures) (c .if1 .left)
-
 pub cells-refusal-spec : {M : Type 1} → statement M
-cells-refusal-spec = tie.close (tie.spec (λ c κs. search needs) returns returns-2)
+cells-refusal-spec =
+    tie.close
+    (tie.spec
+    (λ c κs. search needs)
+    (λ c. refused-high _ (c .before .greatest-cell .ensures) (c .if1 .taken))
+    (λ c. passed-low _ (c .before .greatest-cell .ensures) (c .if1 .left)))

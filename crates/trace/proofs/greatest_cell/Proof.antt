@@ -17,10 +17,6 @@ Inv-loop cells most₀ i₀ most i = (i ≤ length cells) × (most ≡ greatest 
 abbrev μ-loop : tie.MeasureT-loop
 μ-loop cells most₀ i₀ most i = length cells - i
 
-loop-holds : tie.Need-loop-holds Inv-loop μ-loop
-unfolding greatest
-loop-holds c = (search needs, refl)
-
 loop-again : tie.Need-loop-again Inv-loop μ-loop
 loop-again c = (
   omega arith,
@@ -35,15 +31,10 @@ returns c =
     rw (← d) (e .1)
 
 pub greatest-cell-spec : {M : Type 1} → statement M
+unfolding greatest
 greatest-cell-spec =
     tie.close
     (tie.spec
-    Inv-loop
-    μ-loop
-    loop-holds
-    (λ c. search needs)
-    (λ c. search needs)
-    (λ c. search needs)
-    (λ c. search needs)
-    loop-again
-    returns)
+    Inv-loop μ-loop
+    (λ c. (search needs, refl))
+    (λ c. search needs) (λ c. search needs) (λ c. search needs) (λ c. search needs) loop-again returns)

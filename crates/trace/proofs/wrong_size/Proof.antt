@@ -2,32 +2,22 @@
 use native.Mathlib.Nat.{mul-le-mul}
 use native.Mathlib.Omega.{arith}
 use borrow.Author.Tests.{lt-ltb, le-ltb, eq-eqb, ne-eqb}
-use Rattle.meaning.specs.Refusal.{ground8-cells}
+use Rattle.meaning.specs.Refusal.{ground8-cells, mostColumns, mostInstants}
 use Rattle.trace.proofs.wrong_size.Statement.{statement}
 use Rattle.trace.proofs.wrong_size.Tie as tie
-
-returns : tie.Need-returns
-unfolding ground8-cells
-returns c = simp (lt-ltb _ _ (c .if1 .taken))
-
-returns-2 : tie.Need-returns-2
-unfolding ground8-cells
-returns-2 c = simp (le-ltb _ _ (c .before .if1 .left), eq-eqb _ _ (c .if2 .taken))
-
-returns-3 : tie.Need-returns-3
-unfolding ground8-cells
-returns-3 c =
-    simp (le-ltb _ _ (c .before .before .if1 .left), ne-eqb _ _ (c .before .if2 .left), lt-ltb _ _ (c .if3 .taken))
 
 mul-result : tie.Need-mul-result
 mul-result c =
     let a = c .before .before .before .args in
-    omega (arith, mul-le-mul {n₁ = a .width} {m₁ = a .instants} {n₂ = 287} {m₂ = 32} (omega arith) (omega arith))
-
-returns-4 : tie.Need-returns-4
-unfolding ground8-cells
-returns-4 c =
-    simp (le-ltb _ _ (c .before .before .if1 .left), ne-eqb _ _ (c .before .if2 .left), le-ltb _ _ (c .if3 .left))
+    omega (arith, mul-le-mul {n₁ = a .width} {m₁ = a .instants} {n₂ = mostColumns} {m₂ = mostInstants} (omega arith) (omega arith))
 
 pub wrong-size-spec : {M : Type 1} → statement M
-wrong-size-spec = tie.close (tie.spec returns returns-2 returns-3 mul-result returns-4)
+unfolding ground8-cells
+wrong-size-spec =
+    tie.close
+    (tie.spec
+    (λ c. simp (lt-ltb _ _ (c .if1 .taken)))
+    (λ c. simp (le-ltb _ _ (c .before .if1 .left), eq-eqb _ _ (c .if2 .taken)))
+    (λ c. simp (le-ltb _ _ (c .before .before .if1 .left), ne-eqb _ _ (c .before .if2 .left), lt-ltb _ _ (c .if3 .taken)))
+    mul-result
+    (λ c. simp (le-ltb _ _ (c .before .before .if1 .left), ne-eqb _ _ (c .before .if2 .left), le-ltb _ _ (c .if3 .left))))

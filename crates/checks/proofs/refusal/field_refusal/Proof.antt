@@ -1,4 +1,4 @@
--- `fault::field_refusal` meets its contract: by the field's number one or two conditions are left to ask, and only a child
+-- `refusal::field_refusal` meets its contract: by the field's number one or two conditions are left to ask, and only a child
 -- that none of them refuses is counted.
 use mathlib.Core.Path.{sym, _∙_}
 use native.Mathlib.Omega.{arith}
@@ -8,14 +8,6 @@ use Rattle.checks.proofs.Fields.{by-unused, by-atom, by-child}
 use Rattle.checks.proofs.Counting.{kept, stored}
 use Rattle.checks.proofs.refusal.field_refusal.Statement.{statement}
 use Rattle.checks.proofs.refusal.field_refusal.Tie as tie
-
-returns : tie.Need-returns
-returns c =
-    kept (c .before .before .before .pre .3) (rw (c .before .if1 .taken, by-unused, ne-eqb _ _ (c .if2 .taken))) (λ z. omega arith)
-
-returns-2 : tie.Need-returns-2
-returns-2 c =
-    kept (c .before .before .before .pre .3) (rw (c .before .if1 .taken, by-unused, eq-eqb _ _ (c .if2 .left))) (λ z. omega arith)
 
 returns-3 : tie.Need-returns-3
 returns-3 c =
@@ -54,15 +46,7 @@ pub field-refusal-spec : {M : Type 1} → statement M
 field-refusal-spec =
     tie.close
     (tie.spec
-    returns
-    returns-2
-    returns-3
-    returns-4
-    returns-5
-    (λ c κs. search needs)
-    (λ c κs. search needs)
-    returns-6
-    (λ c. search needs)
-    (λ c κs. search needs)
-    (λ c. search needs)
-    returns-7)
+    (λ c. kept (c .before .before .before .pre .3) (rw (c .before .if1 .taken, by-unused, ne-eqb _ _ (c .if2 .taken))) (λ z. omega arith))
+    (λ c. kept (c .before .before .before .pre .3) (rw (c .before .if1 .taken, by-unused, eq-eqb _ _ (c .if2 .left))) (λ z. omega arith))
+    returns-3 returns-4 returns-5 (λ c κs. search needs) (λ c κs. search needs) returns-6 (λ c. search needs)
+    (λ c κs. search needs) (λ c. search needs) returns-7)

@@ -1,4 +1,4 @@
--- `records::fault::formula_refusal` meets its contract: the length decides, then the number of atoms, then the records as a tree.
+-- `refusal::formula_refusal` meets its contract: the length decides, then the number of atoms, then the records as a tree.
 use mathlib.Core.Path.{_≡_, sym, _∙_}
 use mathlib.Core.Bool.{false}
 use Rattle.meaning.specs.Refusal.{firstOf, ground1, ground8}
@@ -7,17 +7,9 @@ use borrow.Author.Needs.{needs}
 use Rattle.checks.proofs.refusal.formula_refusal.Statement.{statement}
 use Rattle.checks.proofs.refusal.formula_refusal.Tie as tie
 
-returns : tie.Need-returns
-unfolding firstOf ground1
-returns c = rw (sym (c .before .wrong-length .ensures) ∙ c .if1 .taken)
-
 -- The length is right.
 right : (c : tie.Else1) → ground1 (c .before .before .before .args .s .now) .applies ≡ false
 right c = sym (c .before .wrong-length .ensures) ∙ c .if1 .left
-
-returns-2 : tie.Need-returns-2
-unfolding firstOf ground8
-returns-2 c = rw (right (c .before .before), sym (c .before .too-many .ensures) ∙ c .if2 .taken)
 
 tree-refusal-requires : tie.Need-tree-refusal-requires
 tree-refusal-requires c κs = let (_, some, few) = ground1-fails _ .0 (right (c .before .before)) in (some, few)
@@ -29,12 +21,12 @@ returns-3 c =
     rw (right (c .before .before .before), few) (c .tree-refusal .ensures)
 
 pub formula-refusal-spec : {M : Type 1} → statement M
+unfolding firstOf ground1 ground8
 formula-refusal-spec =
     tie.close
     (tie.spec
     (λ c κs. search needs)
-    returns
+    (λ c. rw (sym (c .before .wrong-length .ensures) ∙ c .if1 .taken))
     (λ c κs. search needs)
-    returns-2
-    tree-refusal-requires
-    returns-3)
+    (λ c. rw (right (c .before .before), sym (c .before .too-many .ensures) ∙ c .if2 .taken))
+    tree-refusal-requires returns-3)

@@ -1,4 +1,4 @@
--- `fault::places_refusal` meets its contract: before record q, each record is the child of one place.
+-- `refusal::places_refusal` meets its contract: before record q, each record is the child of one place.
 use Prim.Native.Nat.{_-_, _≤_}
 use mathlib.Core.List.{[], _∷_}
 use Rattle.meaning.specs.Run.{each}
@@ -16,9 +16,6 @@ Inv-loop s counts last q₀ q = (q ≤ last) × Clear (each q (λ i. ground7 s i
 abbrev μ-loop : tie.MeasureT-loop
 μ-loop s counts last q₀ q = last - q
 
-loop-holds : tie.Need-loop-holds Inv-loop μ-loop
-loop-holds c = (search needs, scan-none _)
-
 returns : tie.Need-returns Inv-loop μ-loop
 returns c =
     let found = not-single (c .before .before .before .before .before .before .pre .2) (omega arith) (c .if1 .taken) in
@@ -29,21 +26,11 @@ loop-again c =
     let one = single (c .before .before .before .before .before .before .pre .2) (omega arith) (c .if1 .left) in
     (omega arith, scan-more _ _ (c .before .before .before .loop .inv .1) one)
 
-returns-2 : tie.Need-returns-2 Inv-loop μ-loop
-returns-2 c = scan-done _ _ _ (omega arith) (c .before .loop .inv .1)
-
 pub places-refusal-spec : {M : Type 1} → statement M
 places-refusal-spec =
     tie.close
     (tie.spec
-    Inv-loop
-    μ-loop
-    (λ c κs. search needs)
-    (λ c. search needs)
-    loop-holds
-    (λ c. search needs)
-    returns
-    (λ c. search needs)
-    (λ c. search needs)
-    loop-again
-    returns-2)
+    Inv-loop μ-loop (λ c κs. search needs) (λ c. search needs)
+    (λ c. (search needs, scan-none _))
+    (λ c. search needs) returns (λ c. search needs) (λ c. search needs) loop-again
+    (λ c. scan-done _ _ _ (omega arith) (c .before .loop .inv .1)))

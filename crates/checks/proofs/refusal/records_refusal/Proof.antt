@@ -1,4 +1,4 @@
--- `fault::records_refusal` meets its contract: before record r no ground applies, and the places of the first r records are counted.
+-- `refusal::records_refusal` meets its contract: before record r no ground applies, and the places of the first r records are counted.
 use Prim.Native.Nat.{_-_, _≤_}
 use mathlib.Core.Path.{_≡_, sym, _∙_}
 use Rattle.meaning.specs.Run.{each}
@@ -16,12 +16,6 @@ Inv-loop s full atoms counts₀ n r₀ counts r = (r ≤ n) × Clear (each r (re
 
 abbrev μ-loop : tie.MeasureT-loop
 μ-loop s full atoms counts₀ n r₀ counts r = n - r
-
-loop-holds : tie.Need-loop-holds Inv-loop μ-loop
-loop-holds c = (search needs, scan-none _, c .before .before .pre .1)
-
-record-refusal-requires : tie.Need-record-refusal-requires Inv-loop μ-loop
-record-refusal-requires c κs = (search needs, search needs, c .before .before .loop .inv .2)
 
 returns : tie.Need-returns Inv-loop μ-loop
 returns c =
@@ -53,13 +47,7 @@ pub records-refusal-spec : {M : Type 1} → statement M
 records-refusal-spec =
     tie.close
     (tie.spec
-    Inv-loop
-    μ-loop
-    (λ c κs. search needs)
-    loop-holds
-    record-refusal-requires
-    returns
-    (λ c. search needs)
-    (λ c. search needs)
-    loop-again
-    returns-2)
+    Inv-loop μ-loop (λ c κs. search needs)
+    (λ c. (search needs, scan-none _, c .before .before .pre .1))
+    (λ c κs. (search needs, search needs, c .before .before .loop .inv .2))
+    returns (λ c. search needs) (λ c. search needs) loop-again returns-2)

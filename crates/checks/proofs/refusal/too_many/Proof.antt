@@ -1,12 +1,9 @@
--- `records::fault::too_many` meets its contract, which is its test.
+-- `refusal::too_many` meets its contract, which is its test.
 use mathlib.Core.Path.{refl}
 use Rattle.meaning.specs.Refusal.{ground8}
 use Rattle.checks.proofs.refusal.too_many.Statement.{statement}
 use Rattle.checks.proofs.refusal.too_many.Tie as tie
 
-returns : tie.Need-returns
-unfolding ground8
-returns c = refl
-
 pub too-many-spec : {M : Type 1} → statement M
-too-many-spec = tie.close (tie.spec returns)
+unfolding ground8
+too-many-spec = tie.close (tie.spec (λ c. refl))

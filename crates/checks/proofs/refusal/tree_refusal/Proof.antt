@@ -1,16 +1,10 @@
--- `fault::tree_refusal` meets its contract: the records decide, then the last record's sort, then the places.
+-- `refusal::tree_refusal` meets its contract: the records decide, then the last record's sort, then the places.
 use mathlib.Core.Path.{sym, _∙_}
 use Rattle.checks.proofs.Counting.{none}
 use Rattle.checks.proofs.Scan.{tree-record, Past, tree-after}
 use borrow.Author.Needs.{needs}
 use Rattle.checks.proofs.refusal.tree_refusal.Statement.{statement}
 use Rattle.checks.proofs.refusal.tree_refusal.Tie as tie
-
-records-refusal-requires : tie.Need-records-refusal-requires
-records-refusal-requires c κs = (c .before .before .pre .1, none)
-
-returns : tie.Need-returns
-returns c = tree-record _ _ _ (c .before .records-refusal .ensures .refusal) (c .if1 .taken)
 
 -- What is known once the last record's sort is read.
 past : (c : tie.After-sort-of)
@@ -24,28 +18,19 @@ past c =
     (c .before .kind-at .ensures)
     (c .sort-of .ensures)
 
-returns-2 : tie.Need-returns-2
-returns-2 c = past (c .before) .last (c .if2 .taken)
-
 places-refusal-requires : tie.Need-places-refusal-requires
 places-refusal-requires c κs =
     let d = c .before .before .before .before .before in
     let pre = d .before .before .before .before .pre in
     (pre .0, pre .1, d .before .records-refusal .ensures .places (d .if1 .left))
 
-returns-3 : tie.Need-returns-3
-returns-3 c = c .places-refusal .ensures ∙ past (c .before .before .before) .places (c .before .before .if2 .left)
-
 pub tree-refusal-spec : {M : Type 1} → statement M
 tree-refusal-spec =
     tie.close
     (tie.spec
-    records-refusal-requires
-    returns
-    (λ c κs. search needs)
-    (λ c. search needs)
-    (λ c κs. search needs)
-    (λ c κs. search needs)
-    returns-2
+    (λ c κs. (c .before .before .pre .1, none))
+    (λ c. tree-record _ _ _ (c .before .records-refusal .ensures .refusal) (c .if1 .taken))
+    (λ c κs. search needs) (λ c. search needs) (λ c κs. search needs) (λ c κs. search needs)
+    (λ c. past (c .before) .last (c .if2 .taken))
     places-refusal-requires
-    returns-3)
+    (λ c. c .places-refusal .ensures ∙ past (c .before .before .before) .places (c .before .before .if2 .left)))

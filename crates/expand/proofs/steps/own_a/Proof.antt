@@ -5,10 +5,6 @@ use Rattle.expand.specs.Steps.{oneChild, noChild, atomStep, ownA}
 use Rattle.expand.proofs.steps.own_a.Statement.{statement}
 use Rattle.expand.proofs.steps.own_a.Tie as tie
 
-returns : tie.Need-returns
-unfolding ownA
-returns c = rw (lt-ltb _ oneChild (c .before .if1 .taken)) (c .one-less .ensures)
-
 returns-2 : tie.Need-returns-2
 unfolding ownA
 returns-2 c =
@@ -28,6 +24,10 @@ returns-4 c =
     rw (le-ltb _ oneChild (two .before .if1 .left), le-ltb _ noChild (two .if2 .left), ne-eqb _ atomStep (c .if3 .left))
 
 pub own-a-spec : {M : Type 1} → statement M
+unfolding ownA
 own-a-spec =
     tie.close
-    (tie.spec (λ c κs. search needs) returns (λ c κs. search needs) returns-2 returns-3 returns-4)
+    (tie.spec
+    (λ c κs. search needs)
+    (λ c. rw (lt-ltb _ oneChild (c .before .if1 .taken)) (c .one-less .ensures))
+    (λ c κs. search needs) returns-2 returns-3 returns-4)

@@ -5,13 +5,11 @@ use Rattle.expand.specs.Steps.{oneChild, ownB}
 use Rattle.expand.proofs.steps.own_b.Statement.{statement}
 use Rattle.expand.proofs.steps.own_b.Tie as tie
 
-returns : tie.Need-returns
-unfolding ownB
-returns c = rw (lt-ltb _ oneChild (c .before .if1 .taken)) (c .one-less .ensures)
-
-returns-2 : tie.Need-returns-2
-unfolding ownB
-returns-2 c = rw (le-ltb _ oneChild (c .if1 .left))
-
 pub own-b-spec : {M : Type 1} → statement M
-own-b-spec = tie.close (tie.spec (λ c κs. search needs) returns returns-2)
+unfolding ownB
+own-b-spec =
+    tie.close
+    (tie.spec
+    (λ c κs. search needs)
+    (λ c. rw (lt-ltb _ oneChild (c .before .if1 .taken)) (c .one-less .ensures))
+    (λ c. rw (le-ltb _ oneChild (c .if1 .left))))

@@ -1,110 +1,35 @@
 -- `write_step` and `write_tree`, which call each other, meet their contracts. A part is an earlier record, and a tree's steps are
 -- below the tree: the measure is twice the record's number, and one more for a tree. The loop goes through the tree's steps.
-use Prim.Native.Nat.{ℕ, _+_, _*_, _<_}
+mod Claims
+use Prim.Native.Nat.{ℕ}
 use native.Mathlib.Omega.{arith}
 use borrow.Author.Needs.{needs}
-use borrow.Fn.Kinds.{In, Out}
-use borrow.Fn.PlainCycle.{Measures, is, falls, and}
-use Rattle.expand.proofs.Parts.{part-asked, part-bytes, part-count, own-bytes, own-count, own-small}
-use Rattle.expand.proofs.Writing.{Going, going-none, going-less, going-fits, going-more, going-done}
+use Rattle.expand.proofs.Parts.{part-expandable, part-bytes, part-count, own-bytes, own-count, own-small}
+use Rattle.expand.proofs.Writing.{going-none, going-less, going-fits, going-more, going-done}
 use Rattle.expand.proofs.write.write_step.Reads as write-step
-use Rattle.expand.proofs.write.write_step.Kinds as write-step-kinds
 use Rattle.expand.proofs.write.+write_step+write_tree.Lts-write_step as write-step-lts
 use Rattle.expand.proofs.write.write_tree.Reads as write-tree
-use Rattle.expand.proofs.write.write_tree.Kinds as write-tree-kinds
 use Rattle.expand.proofs.write.+write_step+write_tree.Lts-write_tree as write-tree-lts
-use Rattle.expand.proofs.steps.next_under.Reads as next-under-reads
-use Rattle.expand.proofs.steps.own_a.Reads as own-a-reads
-use Rattle.expand.proofs.steps.own_kind.Reads as own-kind-reads
-use Rattle.expand.proofs.steps.own_b.Reads as own-b-reads
-use Rattle.expand.proofs.steps.part_of.Reads as part-of-reads
-use Rattle.expand.proofs.steps.row_of.Reads as row-of-reads
-use Rattle.records.proofs.layout.put_record.Reads as put-record-reads
-use Rattle.records.proofs.layout.field_a.Reads as field-a-reads
-use Rattle.records.proofs.layout.kind_at.Reads as kind-at-reads
 use Rattle.expand.proofs.write.+write_step+write_tree.{statement}
 use Rattle.expand.proofs.write.+write_step+write_tree.Tie.{close}
-
-abbrev μ-write-step : Measures 2 write-step-kinds.ps ℕ
-μ-write-step κs a = 2 * a .1 .0
-
-abbrev μ-write-tree : Measures 2 write-tree-kinds.ps ℕ
-μ-write-tree κs a = 2 * a .1 .0 + 1
-
-abbrev write-step-at : ℕ → In 2 write-step-kinds.ps
-write-step-at t =
-    and 2 write-step-kinds.ps (is 2 write-step-kinds.ps μ-write-step t) write-step.Pre
-
-abbrev write-step-below : ℕ → In 2 write-step-kinds.ps
-write-step-below t =
-    and 2 write-step-kinds.ps (falls 2 write-step-kinds.ps _<_ μ-write-step t) write-step.Pre
-
-abbrev write-tree-at : ℕ → In 2 write-tree-kinds.ps
-write-tree-at t =
-    and 2 write-tree-kinds.ps (is 2 write-tree-kinds.ps μ-write-tree t) write-tree.Pre
-
-abbrev write-tree-below : ℕ → In 2 write-tree-kinds.ps
-write-tree-below t =
-    and 2 write-tree-kinds.ps (falls 2 write-tree-kinds.ps _<_ μ-write-tree t) write-tree.Pre
-
-abbrev write-step-claims : ℕ → write-step-lts.Claims
-write-step-claims t = (
-  part-of-reads.Asked,
-  part-of-reads.Learnt,
-  write-tree-below t,
-  write-tree.Post,
-  own-kind-reads.Asked,
-  own-kind-reads.Learnt,
-  field-a-reads.Asked,
-  field-a-reads.Learnt,
-  own-a-reads.Asked,
-  own-a-reads.Learnt,
-  own-b-reads.Asked,
-  own-b-reads.Learnt,
-  put-record-reads.Asked,
-  put-record-reads.Learnt,
-)
-
-abbrev write-tree-claims : ℕ → write-tree-lts.Claims
-write-tree-claims t = (
-  kind-at-reads.Asked,
-  kind-at-reads.Learnt,
-  row-of-reads.Asked,
-  row-of-reads.Learnt,
-  write-step-below t,
-  write-step.Post,
-  next-under-reads.Asked,
-  next-under-reads.Learnt,
-)
-
-abbrev Inv-loop : write-tree-lts.InvT-loop
-Inv-loop records r buffer₀ from rest₀ under₀ n₀ buffer rest under n = Going records r from buffer₀ rest under n buffer
-
-abbrev μ-loop : write-tree-lts.MeasureT-loop
-μ-loop records r buffer₀ from rest₀ under₀ n₀ buffer rest under n = rest
+use Rattle.expand.proofs.write.+write_step+write_tree.Proof.Claims.{μ-write-step, μ-write-tree, write-step-at, write-tree-at}
+use Rattle.expand.proofs.write.+write_step+write_tree.Proof.Claims.{write-step-claims, write-tree-claims, Inv-loop, μ-loop, of-step, of-tree}
 
 module _ (t : ℕ) where
   -- ---- write_step
-  abbrev of-step : (write-step-lts.Claims → In 2 write-step-kinds.ps
-      → Out 2 write-step-kinds.ps write-step-kinds.r → Type 0) → Type 0
-  of-step X = X (write-step-claims t) (write-step-at t) write-step.Post
-
-  abbrev s-start : of-step write-step-lts.After-shared-slice-known → of-step write-step-lts.Start
+  abbrev s-start : of-step t write-step-lts.After-shared-slice-known → of-step t write-step-lts.Start
   s-start c = c .before
 
-  step-part-of-requires : of-step write-step-lts.Need-part-of-requires
-  step-part-of-requires c κs = search needs
-
-  step-write-tree-requires : of-step write-step-lts.Need-write-tree-requires
+  step-write-tree-requires : of-step t write-step-lts.Need-write-tree-requires
   step-write-tree-requires c κs =
       let then = c .before .before in
       let s = s-start (then .before) in
       let (w, f, _, few) = s .pre .1 in
-      let (l, asked) = part-asked w _ f (then .if1 .taken) in
+      let (l, asked) = part-expandable w _ f (then .if1 .taken) in
       let e = c .before .part-of .ensures in
       (omega (arith, s .pre .0), rw e (asked, few))
 
-  step-returns : of-step write-step-lts.Need-returns
+  step-returns : of-step t write-step-lts.Need-returns
   step-returns c =
       let call = c .before .before in
       let then = call .before in
@@ -112,7 +37,7 @@ module _ (t : ℕ) where
       rw (part-bytes w _ f (then .if1 .taken), part-count w _ f (then .if1 .taken), ← call .part-of .ensures)
       (c .write-tree .ensures)
 
-  step-returns-2 : of-step write-step-lts.Need-returns-2
+  step-returns-2 : of-step t write-step-lts.Need-returns-2
   step-returns-2 c =
       let (w, f, _, few) = s-start (c .before .before) .pre .1 in
       record {
@@ -120,19 +45,7 @@ module _ (t : ℕ) where
         whole = λ h. absurd (omega arith);
       }
 
-  step-own-kind-requires : of-step write-step-lts.Need-own-kind-requires
-  step-own-kind-requires c κs = search needs
-
-  step-field-a-requires : of-step write-step-lts.Need-field-a-requires
-  step-field-a-requires c κs = search needs
-
-  step-own-a-requires : of-step write-step-lts.Need-own-a-requires
-  step-own-a-requires c κs = search needs
-
-  step-own-b-requires : of-step write-step-lts.Need-own-b-requires
-  step-own-b-requires c κs = search needs
-
-  step-put-record-requires : of-step write-step-lts.Need-put-record-requires
+  step-put-record-requires : of-step t write-step-lts.Need-put-record-requires
   step-put-record-requires c κs =
       let a = c .before .before in
       let room = a .before .before .before in
@@ -144,10 +57,7 @@ module _ (t : ℕ) where
         rw (c .own-b .ensures) small-b,
       )
 
-  step-add-result : of-step write-step-lts.Need-add-result
-  step-add-result c = search needs
-
-  step-returns-3 : of-step write-step-lts.Need-returns-3
+  step-returns-3 : of-step t write-step-lts.Need-returns-3
   step-returns-3 c =
       let b = c .before in
       let a = b .before .before in
@@ -161,77 +71,37 @@ module _ (t : ℕ) where
       }
 
   -- ---- write_tree
-  abbrev of-tree : (write-tree-lts.Claims → In 2 write-tree-kinds.ps
-      → Out 2 write-tree-kinds.ps write-tree-kinds.r → write-tree-lts.InvT-loop → write-tree-lts.MeasureT-loop → Type 0) → Type 0
-  of-tree X = X (write-tree-claims t) (write-tree-at t) write-tree.Post Inv-loop μ-loop
-
-  abbrev start : of-tree write-tree-lts.After-row-of → of-tree write-tree-lts.Start
+  abbrev start : of-tree t write-tree-lts.After-row-of → of-tree t write-tree-lts.Start
   start c = c .before .before .before
 
-  tree-kind-at-requires : of-tree write-tree-lts.Need-kind-at-requires
-  tree-kind-at-requires c κs = search needs
-
-  tree-row-of-requires : of-tree write-tree-lts.Need-row-of-requires
-  tree-row-of-requires c κs = search needs
-
-  tree-loop-holds : of-tree write-tree-lts.Need-loop-holds
+  tree-loop-holds : of-tree t write-tree-lts.Need-loop-holds
   tree-loop-holds c =
       let (w, few) = start c .pre .1 in
       going-none w few (rw (c .before .kind-at .ensures) at (c .row-of .ensures))
 
-  tree-cast-step : of-tree write-tree-lts.Need-cast-step
-  tree-cast-step c = search needs
-
-  tree-write-step-requires : of-tree write-tree-lts.Need-write-step-requires
+  tree-write-step-requires : of-tree t write-tree-lts.Need-write-step-requires
   tree-write-step-requires c κs =
       let at-loop = c .before .before in
       let s = start (at-loop .before) in
       let g = at-loop .loop .inv in
       (omega (arith, s .pre .0), (s .pre .1 .0, going-fits g (c .before .loop-test .taken), omega (arith, g .below, g .low), g .low))
 
-  tree-next-under-requires : of-tree write-tree-lts.Need-next-under-requires
-  tree-next-under-requires c κs = search needs
-
-  tree-loop-less : of-tree write-tree-lts.Need-loop-less
+  tree-loop-less : of-tree t write-tree-lts.Need-loop-less
   tree-loop-less c =
       let in-loop = c .before .before .before in
       going-less (in-loop .before .loop .inv) (in-loop .loop-test .taken)
 
-  tree-loop-again : of-tree write-tree-lts.Need-loop-again
+  tree-loop-again : of-tree t write-tree-lts.Need-loop-again
   tree-loop-again c =
       let call = c .before in
       let in-loop = call .before .before in
       going-more (in-loop .before .loop .inv) (in-loop .loop-test .taken) (call .write-step .ensures) (c .next-under .ensures)
 
-  tree-returns : of-tree write-tree-lts.Need-returns
-  tree-returns c = going-done (c .before .loop .inv) (c .loop-test .left)
-
 pub +write-step+write-tree-spec : {M : Type 1} → statement M
-+write-step+write-tree-spec = close μ-write-step μ-write-tree (λ t. write-step-lts.spec (write-step-claims t)
-    (write-step-at t)
-    write-step.Post
-    (step-part-of-requires t)
-    (step-write-tree-requires t)
-    (step-returns t)
-    (step-returns-2 t)
-    (step-own-kind-requires t)
-    (step-field-a-requires t)
-    (step-own-a-requires t)
-    (step-own-b-requires t)
-    (step-put-record-requires t)
-    (step-add-result t)
++write-step+write-tree-spec = close μ-write-step μ-write-tree (λ t. write-step-lts.spec (write-step-claims t) (write-step-at t) write-step.Post
+    (λ c κs. search needs) (step-write-tree-requires t) (step-returns t) (step-returns-2 t) (λ c κs. search needs)
+    (λ c κs. search needs) (λ c κs. search needs) (λ c κs. search needs) (step-put-record-requires t) (λ c. search needs)
     (step-returns-3 t))
-    λ t. write-tree-lts.spec (write-tree-claims t)
-    (write-tree-at t)
-    write-tree.Post
-    Inv-loop
-    μ-loop
-    (tree-kind-at-requires t)
-    (tree-row-of-requires t)
-    (tree-loop-holds t)
-    (tree-cast-step t)
-    (tree-write-step-requires t)
-    (tree-next-under-requires t)
-    (tree-loop-less t)
-    (tree-loop-again t)
-    (tree-returns t)
+    λ t. write-tree-lts.spec (write-tree-claims t) (write-tree-at t) write-tree.Post Inv-loop μ-loop
+    (λ c κs. search needs) (λ c κs. search needs) (tree-loop-holds t) (λ c. search needs) (tree-write-step-requires t)
+    (λ c κs. search needs) (tree-loop-less t) (tree-loop-again t) (λ c. going-done (c .before .loop .inv) (c .loop-test .left))

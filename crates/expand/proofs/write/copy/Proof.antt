@@ -24,17 +24,11 @@ Inv-loop buffer size out₀ i₀ out i = (i ≤ size) × (out ≡ sets out₀ 0 
 abbrev μ-loop : tie.MeasureT-loop
 μ-loop buffer size out₀ i₀ out i = size - i
 
-slice-write-out : tie.Need-slice-write-out Inv-loop μ-loop
-slice-write-out c = omega (arith, simp length-sets at (ap length (c .before .before .loop .inv .1)))
-
 loop-again : tie.Need-loop-again Inv-loop μ-loop
 loop-again c =
     let loop = c .before .before in
     let a = loop .before .args in
     (search needs, rw (loop .loop .inv .1) (copied-more (a .buffer .now) (a .out .now) (loop .loop .i) (omega arith)))
-
-same-length : tie.Need-same-length Inv-loop μ-loop
-same-length c = simp length-sets at (ap length (c .before .loop .inv .1))
 
 returns : tie.Need-returns Inv-loop μ-loop
 returns c =
@@ -45,13 +39,8 @@ pub copy-spec : {M : Type 1} → statement M
 copy-spec =
     tie.close
     (tie.spec
-    Inv-loop
-    μ-loop
-    (λ c. search needs)
-    (λ c. search needs)
-    slice-write-out
-    (λ c. search needs)
-    (λ c. search needs)
-    loop-again
-    same-length
+    Inv-loop μ-loop (λ c. search needs) (λ c. search needs)
+    (λ c. omega (arith, simp length-sets at (ap length (c .before .before .loop .inv .1))))
+    (λ c. search needs) (λ c. search needs) loop-again
+    (λ c. simp length-sets at (ap length (c .before .loop .inv .1)))
     returns)

@@ -16,35 +16,25 @@ Inv-loop rules width n i₀ i = (i ≤ n) × Clear (each i (λ q. ground13 rules
 abbrev μ-loop : tie.MeasureT-loop
 μ-loop rules width n i₀ i = n - i
 
-loop-holds : tie.Need-loop-holds Inv-loop μ-loop
-loop-holds c = (search needs, scan-none _)
-
 returns : tie.Need-returns Inv-loop μ-loop
 unfolding firstOf ground13
 returns c =
-    let bad = sym (c .before .is-bad .ensures) ∙ c .if1 .taken in
-    scan-found _ _ _ (omega arith) (c .before .before .before .loop .inv .1) (simp bad) (λ z. omega arith)
+    let test = c .before in
+    let bad = rw (test .before .rule-at .ensures) at (sym (test .is-bad .ensures) ∙ c .if1 .taken) in
+    scan-found _ _ _ (omega arith) (test .before .before .before .loop .inv .1) (simp bad) (λ z. omega arith)
 
 loop-again : tie.Need-loop-again Inv-loop μ-loop
 unfolding ground13
-loop-again c = (
-  omega arith,
-  scan-more _ _ (c .before .before .before .loop .inv .1) (sym (c .before .is-bad .ensures) ∙ c .if1 .left, tt),
-)
-
-returns-2 : tie.Need-returns-2 Inv-loop μ-loop
-returns-2 c = scan-done _ _ _ (omega arith) (c .before .loop .inv .1)
+loop-again c =
+    let test = c .before in
+    let good = rw (test .before .rule-at .ensures) at (sym (test .is-bad .ensures) ∙ c .if1 .left) in
+    (omega arith, scan-more _ _ (test .before .before .before .loop .inv .1) (good, tt))
 
 pub each-refusal-spec : {M : Type 1} → statement M
 each-refusal-spec =
     tie.close
     (tie.spec
-    Inv-loop
-    μ-loop
-    loop-holds
-    (λ c κs. search needs)
-    returns
-    (λ c. search needs)
-    (λ c. search needs)
-    loop-again
-    returns-2)
+    Inv-loop μ-loop
+    (λ c. (search needs, scan-none _))
+    (λ c κs. search needs) (λ c κs. search needs) returns (λ c. search needs) (λ c. search needs) loop-again
+    (λ c. scan-done _ _ _ (omega arith) (c .before .loop .inv .1)))

@@ -1,92 +1,58 @@
--- `form::is_bad` meets its contract: what holds at a place is kept as what is left to decide, the tests that are not passed yet.
+-- `form::is_bad` meets its contract: after each test the code's value is whether one of the tests so far holds.
 use Prim.Native.Nat.{ℕ}
-use mathlib.Core.Path.{_≡_, refl, sym, _∙_}
-use mathlib.Core.Bool.{or-false}
-use denote.Ref.{now}
-use lib.ListN.{drop}
+use mathlib.Core.Path.{_≡_, sym, _∙_}
+use mathlib.Core.Bool.{Bool, _||_}
+use mathlib.Core.Logic.{⊎-elim}
+use lib.Dec.{ltb}
 use borrow.Author.Tests.{lt-ltb, le-ltb}
 use borrow.Author.Needs.{needs}
-use Rattle.meaning.specs.Rule.{ruleAt}
-use Rattle.meaning.specs.Refusal.{badRule}
-use Rattle.judge.proofs.Words.{some, stop, pass, ruleTests, test-by-test}
+use Rattle.meaning.specs.Refusal.{badLiteral, badRule}
 use Rattle.judge.proofs.form.is_bad.Statement.{statement}
 use Rattle.judge.proofs.form.is_bad.Tie as tie
 
--- Where the first n tests are passed.
-abbrev Past : ℕ → Type 0
-Past n =
-    (c : tie.Start)
-    × (badRule (c .args .width) (ruleAt (now (c .args .rules)) (c .args .i))
-    ≡ some (drop n (ruleTests (c .args .width) (now (c .args .rules)) (c .args .i))))
+module _ (c : tie.Start) where
+  abbrev bad : ℕ → Bool
+  bad = badLiteral (c .args .width) (c .args .rule .place)
 
-abbrev past-1 : tie.Else1 → Past 1
-past-1 c = (c .before .before .before, pass _ _ (test-by-test _ _ _) refl (le-ltb _ _ (c .if1 .left)))
+  abbrev two : Bool
+  two = ltb 3 (c .args .rule .place) || bad (c .args .rule .body1)
 
-abbrev past-2 : tie.Else2 → Past 2
-past-2 c =
-    let p = past-1 (c .before .before .before) in (p .0, pass _ _ (p .1) (c .before .is-bad-literal .ensures) (c .if2 .left))
+  abbrev three : Bool
+  three = two || bad (c .args .rule .body2)
 
-abbrev past-3 : tie.Else3 → Past 3
-past-3 c =
-    let p = past-2 (c .before .before .before) in (p .0, pass _ _ (p .1) (c .before .is-bad-literal2 .ensures) (c .if3 .left))
+  abbrev four : Bool
+  four = three || bad (c .args .rule .head1)
 
-abbrev past-4 : tie.Else4 → Past 4
-past-4 c =
-    let p = past-3 (c .before .before .before) in (p .0, pass _ _ (p .1) (c .before .is-bad-literal3 .ensures) (c .if4 .left))
+  abbrev five : Bool
+  five = four || bad (c .args .rule .head2)
 
-abbrev past-5 : tie.Else5 → Past 5
-past-5 c =
-    let p = past-4 (c .before .before .before) in (p .0, pass _ _ (p .1) (c .before .is-bad-literal4 .ensures) (c .if5 .left))
+to-two : (c : tie.Joined1) → c .if1 .if2 ≡ two (c .before .before)
+to-two c =
+    ⊎-elim
+    (λ t. let l = lt-ltb _ _ (t .0 .taken) in rw l (t .1 ∙ l))
+    (λ e. rw (le-ltb _ _ (e .0 .left)) (e .2 ∙ e .1 .ensures))
+    (c .if1 .came)
 
-returns : tie.Need-returns
-returns c = stop _ _ (test-by-test _ _ _) refl (lt-ltb _ _ (c .if1 .taken))
+to-three : (c : tie.Joined2) → c .if2 .if3 ≡ three (c .before .before .before)
+to-three c =
+    let l = sym (to-two (c .before)) in
+    ⊎-elim (λ t. rw (l ∙ t .0 .taken) (t .1 ∙ t .0 .taken)) (λ e. rw (l ∙ e .0 .left) (e .2 ∙ e .1 .ensures)) (c .if2 .came)
 
-returns-2 : tie.Need-returns-2
-returns-2 c = stop _ _ (past-1 (c .before .before .before) .1) (c .before .is-bad-literal .ensures) (c .if2 .taken)
+to-four : (c : tie.Joined3) → c .if3 .if4 ≡ four (c .before .before .before .before)
+to-four c =
+    let l = sym (to-three (c .before)) in
+    ⊎-elim (λ t. rw (l ∙ t .0 .taken) (t .1 ∙ t .0 .taken)) (λ e. rw (l ∙ e .0 .left) (e .2 ∙ e .1 .ensures)) (c .if3 .came)
 
-returns-3 : tie.Need-returns-3
-returns-3 c = stop _ _ (past-2 (c .before .before .before) .1) (c .before .is-bad-literal2 .ensures) (c .if3 .taken)
-
-returns-4 : tie.Need-returns-4
-returns-4 c = stop _ _ (past-3 (c .before .before .before) .1) (c .before .is-bad-literal3 .ensures) (c .if4 .taken)
-
-returns-5 : tie.Need-returns-5
-returns-5 c = stop _ _ (past-4 (c .before .before .before) .1) (c .before .is-bad-literal4 .ensures) (c .if5 .taken)
-
-returns-6 : tie.Need-returns-6
-unfolding some
-returns-6 c = sym (past-5 (c .before .before) .1 ∙ or-false _ ∙ sym (c .is-bad-literal5 .ensures))
+to-five : (c : tie.Joined4) → c .if4 .if5 ≡ five (c .before .before .before .before .before)
+to-five c =
+    let l = sym (to-four (c .before)) in
+    ⊎-elim (λ t. rw (l ∙ t .0 .taken) (t .1 ∙ t .0 .taken)) (λ e. rw (l ∙ e .0 .left) (e .2 ∙ e .1 .ensures)) (c .if4 .came)
 
 pub is-bad-spec : {M : Type 1} → statement M
+unfolding badRule
 is-bad-spec =
     tie.close
     (tie.spec
-    (λ c. search needs)
-    (λ c. search needs)
-    (λ c. search needs)
-    returns
-    (λ c. search needs)
-    (λ c. search needs)
-    (λ c. search needs)
-    (λ c κs. search needs)
-    returns-2
-    (λ c. search needs)
-    (λ c. search needs)
-    (λ c. search needs)
-    (λ c κs. search needs)
-    returns-3
-    (λ c. search needs)
-    (λ c. search needs)
-    (λ c. search needs)
-    (λ c κs. search needs)
-    returns-4
-    (λ c. search needs)
-    (λ c. search needs)
-    (λ c. search needs)
-    (λ c κs. search needs)
-    returns-5
-    (λ c. search needs)
-    (λ c. search needs)
-    (λ c. search needs)
-    (λ c κs. search needs)
-    returns-6)
+    (λ c κs. search needs) (λ c κs. search needs) (λ c κs. search needs) (λ c κs. search needs) (λ c κs. search needs)
+    (λ c. rw (sym (to-five (c .before)) ∙ c .if5 .taken) (c .if5 .taken))
+    (λ c. rw (sym (to-five (c .before .before)) ∙ c .before .if5 .left) (c .is-bad-literal5 .ensures)))

@@ -6,10 +6,6 @@ use Rattle.meaning.specs.Refusal.{badLiteral}
 use Rattle.judge.proofs.form.is_bad_literal.Statement.{statement}
 use Rattle.judge.proofs.form.is_bad_literal.Tie as tie
 
-returns : tie.Need-returns
-unfolding badLiteral
-returns c = simp (sym (c .before .symbol .ensures), le-leb _ _ (c .if1 .taken))
-
 returns-2 : tie.Need-returns-2
 unfolding badLiteral
 returns-2 c =
@@ -27,7 +23,13 @@ returns-3 c =
       lt-leb _ _ (c .before .before .if1 .left),
       sym (c .before .is-previous .ensures) ∙ c .if2 .left,
     )
+    (c .if2 .left)
 
 pub is-bad-literal-spec : {M : Type 1} → statement M
+unfolding badLiteral
 is-bad-literal-spec =
-    tie.close (tie.spec (λ c. search needs) (λ c κs. search needs) returns (λ c κs. search needs) returns-2 returns-3)
+    tie.close
+    (tie.spec
+    (λ c. search needs) (λ c. search needs) (λ c κs. search needs) (λ c. search needs) (λ c κs. search needs)
+    (λ c. simp (sym (c .before .symbol .ensures), le-leb _ _ (c .if1 .taken)))
+    returns-2 returns-3)

@@ -5,17 +5,13 @@ use Rattle.meaning.specs.Refusal.{firstOf, ground13-length}
 use Rattle.judge.proofs.form.rules_refusal.Statement.{statement}
 use Rattle.judge.proofs.form.rules_refusal.Tie as tie
 
-returns : tie.Need-returns
-unfolding firstOf ground13-length
-returns c = simp (ne-eqb _ _ (c .if1 .taken))
-
-returns-2 : tie.Need-returns-2
-unfolding firstOf ground13-length
-returns-2 c = simp (eq-eqb _ _ (c .before .if1 .left), lt-ltb _ _ (c .if2 .taken))
-
-returns-3 : tie.Need-returns-3
-unfolding firstOf ground13-length
-returns-3 c = simp (eq-eqb _ _ (c .before .before .if1 .left), le-ltb _ _ (c .before .if2 .left)) (c .each-refusal .ensures)
-
 pub rules-refusal-spec : {M : Type 1} → statement M
-rules-refusal-spec = tie.close (tie.spec returns (λ c. search needs) returns-2 (λ c κs. search needs) returns-3)
+unfolding firstOf ground13-length
+rules-refusal-spec =
+    tie.close
+    (tie.spec
+    (λ c. simp (ne-eqb _ _ (c .if1 .taken)))
+    (λ c. search needs)
+    (λ c. simp (eq-eqb _ _ (c .before .if1 .left), lt-ltb _ _ (c .if2 .taken)))
+    (λ c κs. search needs)
+    (λ c. simp (eq-eqb _ _ (c .before .before .if1 .left), le-ltb _ _ (c .before .if2 .left)) (c .each-refusal .ensures)))

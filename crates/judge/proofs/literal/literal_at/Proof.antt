@@ -7,12 +7,14 @@ use Rattle.judge.proofs.literal.literal_at.Tie as tie
 
 returns : tie.Need-returns
 unfolding literal
-returns c = rw (sym (c .before .before .is-negated .ensures) ∙ c .before .if1 .taken) (cc)
-
-returns-2 : tie.Need-returns-2
-unfolding literal
-returns-2 c = rw (sym (c .before .is-negated .ensures) ∙ c .if1 .left) (cc)
+returns c =
+    let one = c .before in
+    rw (sym (one .before .is-negated .ensures) ∙ one .if1 .taken, ← one .before .before .plain-at .ensures) (c .negation .ensures)
 
 pub literal-at-spec : {M : Type 1} → statement M
+unfolding literal
 literal-at-spec =
-    tie.close (tie.spec (λ c κs. search needs) (λ c κs. search needs) (λ c κs. search needs) returns returns-2)
+    tie.close
+    (tie.spec
+    (λ c κs. search needs) (λ c κs. search needs) (λ c κs. search needs) returns
+    (λ c. rw (sym (c .before .is-negated .ensures) ∙ c .if1 .left) (c .before .before .plain-at .ensures)))

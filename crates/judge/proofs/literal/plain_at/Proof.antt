@@ -7,21 +7,21 @@ use Rattle.judge.proofs.literal.plain_at.Tie as tie
 
 returns : tie.Need-returns
 unfolding plain
-returns c = rw (sym (c .before .before .before .before .is-previous .ensures) ∙ c .before .before .before .if1 .taken) (cc)
+returns c =
+    let symbol = c .before .before in
+    let one = symbol .before in
+    rw (sym (one .before .is-previous .ensures) ∙ one .if1 .taken, ← symbol .symbol .ensures, ← c .before .before2 .ensures)
+    (c .symbol-at .ensures)
 
 returns-2 : tie.Need-returns-2
 unfolding plain
-returns-2 c = rw (sym (c .before .before .before .is-previous .ensures) ∙ c .before .before .if1 .left) (cc)
+returns-2 c =
+    let one = c .before .before in
+    rw (sym (one .before .is-previous .ensures) ∙ one .if1 .left, ← c .before .symbol2 .ensures) (c .symbol-at2 .ensures)
 
 pub plain-at-spec : {M : Type 1} → statement M
 plain-at-spec =
     tie.close
     (tie.spec
-    (λ c κs. search needs)
-    (λ c κs. search needs)
-    (λ c κs. search needs)
-    (λ c κs. search needs)
-    returns
-    (λ c κs. search needs)
-    (λ c κs. search needs)
-    returns-2)
+    (λ c κs. search needs) (λ c κs. search needs) (λ c κs. search needs) (λ c κs. search needs) returns
+    (λ c κs. search needs) (λ c κs. search needs) returns-2)

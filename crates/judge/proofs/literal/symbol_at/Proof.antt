@@ -39,10 +39,4 @@ pub symbol-at-spec : {M : Type 1} → statement M
 symbol-at-spec =
     tie.close
     (tie.spec
-    returns
-    returns-2
-    mul-result
-    (λ c. search needs)
-    add-result
-    shared-slice-read-result
-    returns-3)
+    returns returns-2 mul-result (λ c. search needs) (λ c. search needs) add-result shared-slice-read-result returns-3)
