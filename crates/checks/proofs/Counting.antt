@@ -11,7 +11,7 @@ use borrow.Author.Tests.{eq-eqb, ne-eqb}
 use lib.ListN.{length, getD, set, replicate, length-set, getD-replicate}
 use lib.Seq.{getD-set-same, getD-set-other}
 use Rattle.meaning.specs.Record.{Use, unused, atomNumber, child, count, mostRecords, names, uses, placesIn}
-use Rattle.meaning.specs.Refusal.{firstOf, ground7}
+use Rattle.meaning.specs.Refusal.{ofFirst, firstOf, ground7}
 use Rattle.meaning.proofs.First.{Clear}
 use Rattle.shapes.specs.Uses.{useOf}
 use Rattle.checks.specs.Places.{fieldGrounds, Places, FieldTaken}
@@ -81,5 +81,5 @@ module _ {s counts : List ℕ} {r : ℕ} (p : Places s (count s) counts) (h : r 
   single e = (rw (eq-eqb (placesIn s r (count s)) 1 (omega (arith, p .counted r h))), tt)
 
   pub not-single : (getD counts r 0 ≡ 1 → ⊥) → 7 ≡ firstOf (ground7 s r ∷ [])
-  unfolding ground7 firstOf
+  unfolding ground7 ofFirst
   not-single q = rw (ne-eqb (placesIn s r (count s)) 1 (λ e. q (omega (arith, p .counted r h))))

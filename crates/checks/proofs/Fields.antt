@@ -8,7 +8,7 @@ use mathlib.Core.List.{List}
 use lib.Dec.{leb, eqb}
 use native.Mathlib.Omega.{arith}
 use Rattle.meaning.specs.Record.{Sort, Use, formula, path, unused, atomNumber, child, kindAt, sortOf, useA, useB, fieldA, fieldB}
-use Rattle.meaning.specs.Refusal.{firstOf, stray, late, beyond, misfit, differ}
+use Rattle.meaning.specs.Refusal.{ofFirst, firstOf, stray, late, beyond, misfit, differ}
 use Rattle.shapes.specs.Uses.{sortCode, useCode, useOf}
 use Rattle.checks.specs.Places.{fieldGrounds}
 
@@ -47,17 +47,17 @@ differ-code path path = refl
 -- ---- the first condition on a field
 module _ (s : List ℕ) (A r : ℕ) where
   pub by-unused : (v : ℕ) → firstOf (fieldGrounds s A r (useOf 0) v) ≡ cond (not (eqb v 0)) 3 0
-  unfolding firstOf fieldGrounds useOf stray late beyond misfit
+  unfolding ofFirst fieldGrounds useOf stray late beyond misfit
   by-unused v = refl
 
   pub by-atom : (v : ℕ) → firstOf (fieldGrounds s A r (useOf 1) v) ≡ cond (leb A v) 5 0
-  unfolding firstOf fieldGrounds useOf stray late beyond misfit
+  unfolding ofFirst fieldGrounds useOf stray late beyond misfit
   by-atom v = refl
 
   pub by-child : (u v : ℕ) → 2 ≤ u → u ≤ 3
       → firstOf (fieldGrounds s A r (useOf u) v)
       ≡ cond (leb r v) 4 (cond (not (eqb (sortCode (sortOf (kindAt s v))) u)) 6 0)
-  unfolding firstOf fieldGrounds useOf stray late beyond misfit sortCode
+  unfolding ofFirst fieldGrounds useOf stray late beyond misfit sortCode
   by-child zero v h l = absurd (omega arith)
   by-child (suc zero) v h l = absurd (omega arith)
   by-child (suc (suc zero)) v h l = rw (differ-code formula (sortOf (kindAt s v)))

@@ -8,8 +8,8 @@ use mathlib.Core.Logic.{_⊎_, inl, inr}
 use native.Mathlib.Omega.{arith}
 use borrow.Author.Tests.{ne-eqb}
 use lib.Dec.{eqb}
-use Rattle.meaning.specs.Record.{kindAt, zeroByte, fieldA, fieldB, useA, useB, known}
-use Rattle.meaning.specs.Refusal.{firstOf, recordGrounds, ground2, ground3, ground4, ground5, ground6}
+use Rattle.meaning.specs.Record.{Language, kindAt, zeroByte, fieldA, fieldB, useA, useB, known}
+use Rattle.meaning.specs.Refusal.{ofFirst, firstOf, recordGrounds, ground2, ground3, ground4, ground5, ground6}
 use Rattle.shapes.specs.Uses.{useOf}
 use Rattle.checks.specs.Places.{fieldGrounds, fieldsGrounds, sooner}
 use Rattle.checks.proofs.Fields.{Read, use-again}
@@ -57,16 +57,16 @@ cond-or : (a b : Bool) (n m : ℕ) → cond (a || b) n m ≡ cond a n (cond b n 
 cond-or true b n m = refl
 cond-or false b n m = refl
 
-pub by-record : (full : Bool) (s : List ℕ) (A r : ℕ)
-    → firstOf (recordGrounds full s A r)
-    ≡ cond (not (known full (kindAt s r))) 2 (cond (not (eqb (zeroByte s r) 0)) 3 (firstOf (fieldsGrounds s A r)))
-unfolding firstOf fieldsGrounds recordGrounds ground2 ground3
-by-record full s A r = simp (or-assoc, cond-or)
+pub by-record : (ℓ : Language) (s : List ℕ) (A r : ℕ)
+    → firstOf (recordGrounds ℓ s A r)
+    ≡ cond (not (known ℓ (kindAt s r))) 2 (cond (not (eqb (zeroByte s r) 0)) 3 (firstOf (fieldsGrounds s A r)))
+unfolding ofFirst fieldsGrounds recordGrounds ground2 ground3
+by-record ℓ s A r = simp (or-assoc, cond-or)
 
 -- The fields as the code reads them.
 pub by-fields : (s : List ℕ) (A r : ℕ) {ua ub a b x y : ℕ} → Read s r ua ub a b
     → x ≡ firstOf (fieldGrounds s A r (useOf ua) a) → y ≡ firstOf (fieldGrounds s A r (useOf ub) b)
     → sooner x y ≡ firstOf (fieldsGrounds s A r)
-unfolding firstOf fieldGrounds fieldsGrounds ground4 ground5 ground6
+unfolding ofFirst fieldGrounds fieldsGrounds ground4 ground5 ground6
 by-fields s A r read ex ey =
     simp (ex, ey, read .use-a, read .use-b, read .at-a, read .at-b, use-again, cond-or, woven)

@@ -6,16 +6,17 @@ ghost use Prim.Native.Nat.{pred, min, _+_, _<_, _≤_};
 ghost use lib.ListN.{length};
 ghost use Rattle.meaning.specs.Run.{each};
 ghost use Rattle.meaning.specs.Record.{count, mostRecords, kindByte};
-ghost use Rattle.meaning.specs.Refusal.{firstOf, ground1, ground7, ground8, recordGrounds, treeGrounds, formulaGrounds};
+ghost use Rattle.meaning.specs.Refusal.{firstOf, ground, ground1, ground7, recordGrounds, treeGrounds};
+ghost use Rattle.shapes.specs.Uses.{languageOf};
 ghost use Rattle.checks.specs.Places.{Places, FieldTaken, Taken, sooner, fieldsGrounds};
 use records::layout;
 
 // In how many places each record is the child; more than one is as good as two.
 type Counts = [u8; layout::MOST_RECORDS];
 
-// ---- the length and the atoms
+// ---- the length
 // 1: no records, a part of one, or over 255.
-pub fn wrong_length(s: &[u8]) -> bool
+fn wrong_length(s: &[u8]) -> bool
     ensures { λ b. ⌜ b ≡ ground1 (now (s .entry)) .applies ⌝ }
 {
     if s.len() == 0 {
@@ -25,13 +26,6 @@ pub fn wrong_length(s: &[u8]) -> bool
         return true;
     }
     layout::RECORD_SIZE * layout::MOST_RECORDS < s.len()
-}
-
-// 8: over 32 atoms.
-fn too_many(atoms: u64) -> bool
-    ensures { λ b. ⌜ b ≡ ground8 atoms .applies ⌝ }
-{
-    layout::MOST_ATOMS < atoms
 }
 
 // ---- one field
@@ -109,12 +103,12 @@ fn fields_refusal(s: &[u8], atoms: u64, counts: &mut Counts, r: usize, kind: u8)
 }
 
 // The first of 2 to 6 that applies to record r. If none does, its children are counted.
-fn record_refusal(s: &[u8], full: bool, atoms: u64, counts: &mut Counts, r: usize) -> u8
+fn record_refusal(s: &[u8], language: u8, atoms: u64, counts: &mut Counts, r: usize) -> u8
     requires { ⌜ (r < count (now s)) × (count (now s) ≤ mostRecords) × Places (now s) r (now counts) ⌝ }
-    ensures { λ x. ⌜ Taken (recordGrounds full (now (s .entry)) atoms r) (now (s .entry)) (r + 1) (now (counts .exit)) x ⌝ }
+    ensures { λ x. ⌜ Taken (recordGrounds (languageOf language) (now (s .entry)) atoms r) (now (s .entry)) (r + 1) (now (counts .exit)) x ⌝ }
 {
     let kind = layout::kind_at(s, r);
-    if !shapes::takes(full, kind) {
+    if !shapes::takes(language, kind) {
         return refusals::UNKNOWN_KIND;
     }
     if layout::zero_at(s, r) != 0 {
@@ -125,14 +119,14 @@ fn record_refusal(s: &[u8], full: bool, atoms: u64, counts: &mut Counts, r: usiz
 
 // ---- all records
 // The first of 2 to 6 that applies to a record. If none does, the counts say in how many places each record is the child.
-fn records_refusal(s: &[u8], full: bool, atoms: u64, counts: &mut Counts) -> u8
+fn records_refusal(s: &[u8], language: u8, atoms: u64, counts: &mut Counts) -> u8
     requires { ⌜ (count (now s) ≤ mostRecords) × Places (now s) 0 (now counts) ⌝ }
-    ensures { λ x. ⌜ Taken (each (count (now (s .entry))) (recordGrounds full (now (s .entry)) atoms)) (now (s .entry)) (count (now (s .entry))) (now (counts .exit)) x ⌝ }
+    ensures { λ x. ⌜ Taken (each (count (now (s .entry))) (recordGrounds (languageOf language) (now (s .entry)) atoms)) (now (s .entry)) (count (now (s .entry))) (now (counts .exit)) x ⌝ }
 {
     let n = layout::record_count(s);
     let mut r: usize = 0;
     while r < n {
-        let x = record_refusal(s, full, atoms, counts, r);
+        let x = record_refusal(s, language, atoms, counts, r);
         if x != refusals::ACCEPTED {
             return x;
         }
@@ -158,12 +152,12 @@ fn places_refusal(s: &[u8], counts: &Counts) -> u8
 }
 
 // ---- the records as a tree
-pub fn tree_refusal(s: &[u8], full: bool, atoms: u64) -> u8
+fn tree_refusal(s: &[u8], language: u8, atoms: u64) -> u8
     requires { ⌜ (0 < count (now s)) × (count (now s) ≤ mostRecords) ⌝ }
-    ensures { λ x. ⌜ x ≡ firstOf (treeGrounds full (now (s .entry)) atoms) ⌝ }
+    ensures { λ x. ⌜ x ≡ firstOf (treeGrounds (languageOf language) (now (s .entry)) atoms) ⌝ }
 {
     let mut counts = [0u8; layout::MOST_RECORDS];
-    let x = records_refusal(s, full, atoms, &mut counts);
+    let x = records_refusal(s, language, atoms, &mut counts);
     if x != refusals::ACCEPTED {
         return x;
     }
@@ -174,16 +168,16 @@ pub fn tree_refusal(s: &[u8], full: bool, atoms: u64) -> u8
     places_refusal(s, &counts)
 }
 
-// ---- what every service without a trace asks of the formula
-// 1, 8, then those of the records.
-pub fn formula_refusal(s: &[u8], full: bool, atoms: u64) -> u8
-    ensures { λ x. ⌜ x ≡ firstOf (formulaGrounds full (now (s .entry)) atoms) ⌝ }
+// ---- what every service asks of a formula
+// 1; then 8, as the service itself found; then those of the records.
+pub fn formula_refusal(s: &[u8], language: u8, atoms: u64, wrong_size: bool) -> u8
+    ensures { λ x. ⌜ x ≡ firstOf (ground1 (now (s .entry)) ∷ ground 8 «wrong_size» ∷ treeGrounds (languageOf language) (now (s .entry)) atoms) ⌝ }
 {
     if wrong_length(s) {
         return refusals::WRONG_LENGTH;
     }
-    if too_many(atoms) {
+    if wrong_size {
         return refusals::WRONG_SIZE;
     }
-    tree_refusal(s, full, atoms)
+    tree_refusal(s, language, atoms)
 }

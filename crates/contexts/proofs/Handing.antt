@@ -51,7 +51,7 @@ pathless n (inl l) = (
 pathless n (inr (m, l)) =
     (sym (stretch (λ K. isPath (useA K)) false 5 3 refl n m l), sym (stretch (λ K. isPath (useB K)) false 5 3 refl n m l))
 
-module _ {s : List ℕ} {A : ℕ} (w : WellFormed false s A) where
+module _ {s : List ℕ} {A : ℕ} (w : WellFormed core s A) where
   -- A path's parent is a later record.
   later : (r : ℕ) → r < count s → sortOf (kindAt s r) ≡ path → (parent s r < count s) × (0 < uses s r (parent s r)) × (r < parent s r)
   later r l e =
@@ -157,7 +157,7 @@ module _ {s : List ℕ} {A : ℕ} (w : WellFormed false s A) where
 
 -- ---- all records
 -- A place after the last record counts as a formula.
-outside : {s : List ℕ} {A : ℕ} → WellFormed false s A → (r : ℕ) → count s ≤ r → sortOf (kindAt s r) ≡ formula
+outside : {s : List ℕ} {A : ℕ} → WellFormed core s A → (r : ℕ) → count s ≤ r → sortOf (kindAt s r) ≡ formula
 unfolding kindOf kinds columnsOf
 outside {s} w r h = rw (List·getD-eq-default s 0 {n = recordSize * r} (omega (arith, w .whole)))
 

@@ -7,7 +7,7 @@ use mathlib.Core.List.{List}
 use native.Mathlib.Omega.{arith}
 use lib.Dec.{eqb, ltb}
 use borrow.Author.Tests.{lt-ltb, le-ltb}
-use Rattle.meaning.specs.Record.{Sort, Use, unused, atomNumber, child, useA, useB, kindAt, fieldA, fieldB, recordBytes, sortOf}
+use Rattle.meaning.specs.Record.{Sort, Use, unused, atomNumber, child, useA, useB, kindAt, fieldA, fieldB, bytesOf, sortOf}
 use Rattle.meaning.specs.Tree.{treeAt}
 use Rattle.meaning.specs.WellFormed.{Fits}
 use Rattle.meaning.proofs.Fails.{and-holds}
@@ -87,7 +87,7 @@ module _ {s : List ℕ} {r : ℕ} (w : Expandable s r) where
 
     -- ---- an own record
     module _ (own : d < partA) where
-      pub own-bytes : (under n : ℕ) → stepBytes s r d under n ≡ recordBytes (ownKind d) (ownA d (fieldA s r) under n) (ownB d n)
+      pub own-bytes : (under n : ℕ) → stepBytes s r d under n ≡ bytesOf (ownKind d) (ownA d (fieldA s r) under n) (ownB d n)
       unfolding stepFrom
       own-bytes under n = rw (lt-ltb d partA own)
 

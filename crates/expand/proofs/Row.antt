@@ -7,9 +7,8 @@ use mathlib.Core.List.{List, [], _∷_}
 use native.Mathlib.Omega.{arith}
 use lib.Dec.{ltb}
 use borrow.Author.Tests.{ltb-true}
-use Rattle.meaning.specs.Record.{Kind, kinds, kindOf, argumentsOf, columnsOf}
+use Rattle.meaning.specs.Record.{numberOf, Kind, kinds, kindOf, argumentsOf, columnsOf}
 use Rattle.meaning.specs.Shorthand.{expansion}
-use Rattle.meaning.specs.Tree.{modalNumber, moveNumber}
 use Rattle.meaning.proofs.Fails.{and-holds}
 use Rattle.records.proofs.Ranges.{onward}
 use Rattle.expand.specs.Steps.{partA, byte, formSteps, pathSteps, stepsOf, digits, rowOf, partUse}
@@ -22,7 +21,7 @@ allFit K (d ∷ ds) = fits K d && allFit K ds
 
 pub steps-fit : (number : ℕ) → true ≡ allFit (kindOf number) (stepsOf (kindOf number))
 unfolding allFit fits isChild isAtom partUse columnsOf argumentsOf
-    kinds stepsOf formSteps pathSteps expansion modalNumber moveNumber
+    kinds stepsOf formSteps pathSteps expansion numberOf
 steps-fit number = onward (λ (K : Kind). allFit K (stepsOf K)) 0 48 refl number (omega arith)
 
 -- A step that fits is a byte.

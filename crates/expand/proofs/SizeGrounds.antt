@@ -11,9 +11,9 @@ use lib.ListN.{length, take, drop}
 use lib.Seq.{sets, length-sets, take-append-seam}
 use borrow.Author.Tests.{lt-ltb, ltb-false, eq-eqb, ne-eqb}
 use Rattle.meaning.specs.Run.{written}
-use Rattle.meaning.specs.Record.{count, recordSize, mostRecords, formula}
+use Rattle.meaning.specs.Record.{full, count, recordSize, mostRecords, formula}
 use Rattle.meaning.specs.Tree.{formAt, treeAt, postorder}
-use Rattle.meaning.specs.Refusal.{firstOf, ground10, ground14, formulaGrounds, expandGrounds, wholeForm}
+use Rattle.meaning.specs.Refusal.{ofFirst, firstOf, ground10, ground14, formulaGrounds, expandGrounds, wholeForm}
 use Rattle.meaning.specs.Service.{accepted, expandAnswer, expandAfter}
 use Rattle.meaning.proofs.Bounds.{le-or-lt}
 use Rattle.meaning.specs.WellFormed.{WellFormed}
@@ -27,7 +27,7 @@ use Rattle.expand.proofs.Sized.{tree-length}
 -- ---- the size
 -- Numbers of records that stop at 256 are refused as the numbers themselves are.
 capped : (n room : ℕ) → firstOf (sizeGrounds (min many n) room) ≡ firstOf (sizeGrounds n room)
-unfolding ground14 firstOf
+unfolding ground14 ofFirst
 capped n room =
     ⊎-elim
     (λ (few : n ≤ mostRecords). let e : min many n ≡ n = omega arith in rw e)
@@ -100,13 +100,13 @@ module _ {s : List ℕ} (w : Expandable s (last s)) {e : ℕ} {old buffer : List
 
 -- ---- the whole answer
 module _ (s : List ℕ) (A room : ℕ) where
-  pub whole-sized : WellFormed true s A → firstOf (sizeGrounds (wholeForm s) room) ≡ firstOf (expandGrounds s A room)
+  pub whole-sized : WellFormed full s A → firstOf (sizeGrounds (wholeForm s) room) ≡ firstOf (expandGrounds s A room)
   unfolding expandGrounds
-  whole-sized w = sym (clear-skip (formulaGrounds true s A) _ (clear-well-formed true s A .1 w))
+  whole-sized w = sym (clear-skip (formulaGrounds full s A) _ (clear-well-formed full s A .1 w))
 
-  pub whole-refused : {x : ℕ} → x ≡ firstOf (formulaGrounds true s A) → (x ≡ 0 → ⊥) → x ≡ firstOf (expandGrounds s A room)
+  pub whole-refused : {x : ℕ} → x ≡ firstOf (formulaGrounds full s A) → (x ≡ 0 → ⊥) → x ≡ firstOf (expandGrounds s A room)
   unfolding expandGrounds
-  whole-refused e n = e ∙ sym (found-stop (formulaGrounds true s A) _ (λ z. n (e ∙ z)))
+  whole-refused e n = e ∙ sym (found-stop (formulaGrounds full s A) _ (λ z. n (e ∙ z)))
 
 pub answers : (s : List ℕ) (A : ℕ) (out : List ℕ) {x n : ℕ} {new : List ℕ} → x ≡ firstOf (expandGrounds s A (length out)) → n ≡ accepted x (wholeForm s) 0
     → new ≡ accepted x (written (postorder (formAt s (pred (count s)))) out) out

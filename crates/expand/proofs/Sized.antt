@@ -7,7 +7,7 @@ use mathlib.Core.List.{List, [], _∷_}
 use native.Mathlib.Omega.{arith}
 use lib.Dec.{ltb}
 use lib.ListN.{length, length-append}
-use Rattle.meaning.specs.Record.{Kind, recordSize, Sort, formula, path, Use, unused, atomNumber, child, sortOf, known}
+use Rattle.meaning.specs.Record.{full, Kind, recordSize, Sort, formula, path, Use, unused, atomNumber, child, sortOf, known}
 use Rattle.meaning.specs.Formula.{Form, Path}
 use Rattle.meaning.specs.Tree.{Tree, asForm, asPath, nodeOf, formFrom, pathFrom, formSize, pathSize}
 use Rattle.expand.specs.Steps.{partA, stepsOf, treeFrom, treeSize, fieldFrom, fieldSize, partOf, partUse, stepFrom, stepSize, nextUnder}
@@ -65,6 +65,6 @@ module _ (K : Kind) (a b : ℕ) (t : ℕ → Tree) where
   steps-length (d ∷ ds) under n =
       simp length-append (omega (arith, step-length d under n, steps-length ds (nextUnder d under n) (n + stepSize K a b t d)))
 
-  pub node-size : known true K ≡ true → treeSize (sortOf K) (nodeOf K a b t) ≡ stepsSize (stepsOf K)
+  pub node-size : known full K ≡ true → treeSize (sortOf K) (nodeOf K a b t) ≡ stepsSize (stepsOf K)
   node-size h =
       omega (arith, tree-length (sortOf K) (nodeOf K a b t) 0, steps-length (stepsOf K) 0 0, ap length (node-from K a b t 0 h))

@@ -5,11 +5,11 @@ use mathlib.Core.Path.{_≡_, refl, sym}
 use mathlib.Core.Bool.{true, false, true≢false}
 use mathlib.Core.List.{List, [], _∷_, _++_, append-assoc}
 use native.Mathlib.Nat.{add-assoc}
-use Rattle.meaning.specs.Record.{Kind, constant, atom, modal, move, test, choice, sequence, star, shorthand, unknown, columnsOf}
-use Rattle.meaning.specs.Record.{negated, both, either, implies, end, beside, along, until, since}
+use Rattle.meaning.specs.Record.{numberOf, full, Kind, constant, atom, modal, move, test, choice, sequence, star, shorthand, unknown, columnsOf}
+use Rattle.meaning.specs.Record.{denied, both, either, implies, end, beside, along, until, since}
 use Rattle.meaning.specs.Record.{diamond, box, ahead, back, argumentsOf, sortOf, known}
 use Rattle.meaning.specs.Shorthand.{expansion}
-use Rattle.meaning.specs.Tree.{Tree, asForm, asPath, nodeOf, formFrom, pathFrom, formSize, pathSize, modalNumber, moveNumber}
+use Rattle.meaning.specs.Tree.{Tree, asForm, asPath, nodeOf, formFrom, pathFrom, formSize, pathSize}
 use Rattle.expand.specs.Steps.{formSteps, pathSteps, stepsOf, treeFrom, treeSize, fieldFrom, fieldSize}
 use Rattle.expand.specs.Steps.{ownA, ownB, partOf, partUse, stepFrom, stepSize, nextUnder}
 
@@ -19,9 +19,9 @@ module _ (K : Kind) (a b : ℕ) (t : ℕ → Tree) where
   stepsFrom [] under n = []
   stepsFrom (d ∷ ds) under n = stepFrom K a b t d under n ++ stepsFrom ds (nextUnder d under n) (n + stepSize K a b t d)
 
-pub node-from : (K : Kind) (a b : ℕ) (t : ℕ → Tree) (n : ℕ) → known true K ≡ true
+pub node-from : (K : Kind) (a b : ℕ) (t : ℕ → Tree) (n : ℕ) → known full K ≡ true
     → treeFrom (sortOf K) (nodeOf K a b t) n ≡ stepsFrom K a b t (stepsOf K) n n
-unfolding known columnsOf nodeOf asForm asPath expansion treeFrom treeSize formFrom pathFrom formSize pathSize modalNumber moveNumber
+unfolding known columnsOf nodeOf asForm asPath expansion treeFrom treeSize formFrom pathFrom formSize pathSize numberOf
     stepsOf formSteps pathSteps stepsFrom stepFrom stepSize nextUnder partOf partUse fieldFrom fieldSize argumentsOf
     ownA ownB
 node-from (constant true) a b t n h = refl
@@ -35,7 +35,7 @@ node-from test a b t n h = refl
 node-from choice a b t n h = simp (append-assoc, add-assoc)
 node-from sequence a b t n h = simp (append-assoc, add-assoc)
 node-from star a b t n h = refl
-node-from (shorthand negated) a b t n h = simp (append-assoc, add-assoc)
+node-from (shorthand denied) a b t n h = simp (append-assoc, add-assoc)
 node-from (shorthand both) a b t n h = simp (append-assoc, add-assoc)
 node-from (shorthand either) a b t n h = simp (append-assoc, add-assoc)
 node-from (shorthand implies) a b t n h = simp (append-assoc, add-assoc)

@@ -14,7 +14,7 @@ use mathlib.Core.List.{List, [], _∷_}
 use lib.ListN.{length}
 use lib.Dec.{eqb, ltb}
 use lib.Seq.{sets}
-use Rattle.meaning.specs.Record.{Kind, Use, unused, atomNumber, child, useA, recordSize, mostRecords, count, kindAt, fieldA, fieldB, sortOf}
+use Rattle.meaning.specs.Record.{full, Kind, Use, unused, atomNumber, child, useA, recordSize, mostRecords, count, kindAt, fieldA, fieldB, sortOf}
 use Rattle.meaning.specs.Run.{written}
 use Rattle.meaning.specs.Tree.{treeAt, formAt, postorder}
 use Rattle.meaning.specs.Refusal.{Ground, firstOf, ground10, ground14, wholeForm}
@@ -24,7 +24,7 @@ use Rattle.expand.specs.Steps.{atomStep, partA, byte, treeFrom, treeSize
 
 pub record Expandable (s : List ℕ) (r : ℕ) : Type 0 where
   pub atoms : ℕ
-  pub formed : WellFormed true s atoms
+  pub formed : WellFormed full s atoms
   pub index : r < count s
 
 abbrev pub bytesAt : List ℕ → ℕ → ℕ → List ℕ

@@ -15,10 +15,10 @@ use Prim.Native.Nat.{ℕ, pred, _+_, _*_, _%_}
 use mathlib.Core.Bool.{cond}
 use mathlib.Core.List.{List, [], _∷_, _++_}
 use lib.Dec.{eqb, ltb}
-use Rattle.meaning.specs.Record.{Kind, Sort, formula, path, Use, unused, atomNumber, child, useA, useB, recordBytes}
+use Rattle.meaning.specs.Record.{Kind, Sort, formula, path, Use, unused, atomNumber, child, useA, useB, bytesOf, numberOf, modal, move, constant, atom, test, choice, sequence, star}
 use Rattle.meaning.specs.Formula.{Form, Path}
 use Rattle.meaning.specs.Shorthand.{expansion}
-use Rattle.meaning.specs.Tree.{Tree, asForm, asPath, formFrom, pathFrom, formSize, pathSize, modalNumber, moveNumber}
+use Rattle.meaning.specs.Tree.{Tree, asForm, asPath, formFrom, pathFrom, formSize, pathSize}
 
 -- ---- steps
 abbrev pub oneChild : ℕ
@@ -28,7 +28,7 @@ abbrev pub noChild : ℕ
 noChild = 0x20
 
 abbrev pub atomStep : ℕ
-atomStep = noChild + 2
+atomStep = noChild + numberOf atom
 
 abbrev pub partA : ℕ
 partA = 0x3A
@@ -37,30 +37,30 @@ partA = 0x3A
 -- Those of an expansion in which the atoms 0 and 1 stand for the arguments.
 unfoldable mutual
   pub formSteps : Form → List ℕ
-  formSteps (Form.constant v) = (noChild + cond v 1 0) ∷ []
+  formSteps (Form.constant v) = (noChild + numberOf (constant v)) ∷ []
   formSteps (Form.atom i) = (partA + i) ∷ []
-  formSteps (Form.modal m p f) = pathSteps p ++ formSteps f ++ (modalNumber m ∷ [])
+  formSteps (Form.modal m p f) = pathSteps p ++ formSteps f ++ (numberOf (modal m) ∷ [])
 
   pub pathSteps : Path → List ℕ
-  pathSteps (Path.move w) = (noChild + moveNumber w) ∷ []
-  pathSteps (Path.test f) = formSteps f ++ ((oneChild + 7) ∷ [])
-  pathSteps (Path.choice p q) = pathSteps p ++ pathSteps q ++ (8 ∷ [])
-  pathSteps (Path.sequence p q) = pathSteps p ++ pathSteps q ++ (9 ∷ [])
-  pathSteps (Path.star p) = pathSteps p ++ ((oneChild + 10) ∷ [])
+  pathSteps (Path.move w) = (noChild + numberOf (move w)) ∷ []
+  pathSteps (Path.test f) = formSteps f ++ ((oneChild + numberOf test) ∷ [])
+  pathSteps (Path.choice p q) = pathSteps p ++ pathSteps q ++ (numberOf choice ∷ [])
+  pathSteps (Path.sequence p q) = pathSteps p ++ pathSteps q ++ (numberOf sequence ∷ [])
+  pathSteps (Path.star p) = pathSteps p ++ ((oneChild + numberOf star) ∷ [])
 
 -- A core kind's are the trees of its fields and a record of the kind.
 abbrev partB : ℕ
 partB = partA + 1
 
 unfoldable pub stepsOf : Kind → List ℕ
-stepsOf (Kind.constant v) = (noChild + cond v 1 0) ∷ []
+stepsOf (Kind.constant v) = (noChild + numberOf (constant v)) ∷ []
 stepsOf Kind.atom = atomStep ∷ []
-stepsOf (Kind.modal m) = partA ∷ partB ∷ modalNumber m ∷ []
-stepsOf (Kind.move w) = (noChild + moveNumber w) ∷ []
-stepsOf Kind.test = partA ∷ (oneChild + 7) ∷ []
-stepsOf Kind.choice = partA ∷ partB ∷ 8 ∷ []
-stepsOf Kind.sequence = partA ∷ partB ∷ 9 ∷ []
-stepsOf Kind.star = partA ∷ (oneChild + 10) ∷ []
+stepsOf (Kind.modal m) = partA ∷ partB ∷ numberOf (modal m) ∷ []
+stepsOf (Kind.move w) = (noChild + numberOf (move w)) ∷ []
+stepsOf Kind.test = partA ∷ (oneChild + numberOf test) ∷ []
+stepsOf Kind.choice = partA ∷ partB ∷ numberOf choice ∷ []
+stepsOf Kind.sequence = partA ∷ partB ∷ numberOf sequence ∷ []
+stepsOf Kind.star = partA ∷ (oneChild + numberOf star) ∷ []
 stepsOf (Kind.shorthand σ) = formSteps (expansion σ (Form.atom 0) (Form.atom 1))
 stepsOf Kind.unknown = []
 
@@ -116,7 +116,7 @@ partUse kind d = cond (eqb d partA) (useA kind) (useB kind)
 -- `tree` has the trees of the records before.
 unfoldable pub stepFrom : Kind → ℕ → ℕ → (ℕ → Tree) → ℕ → ℕ → ℕ → List ℕ
 stepFrom kind a b tree d under n =
-    cond (ltb d partA) (recordBytes (ownKind d) (ownA d a under n) (ownB d n)) (fieldFrom (partUse kind d) (tree (partOf d a b)) n)
+    cond (ltb d partA) (bytesOf (ownKind d) (ownA d a under n) (ownB d n)) (fieldFrom (partUse kind d) (tree (partOf d a b)) n)
 
 unfoldable pub stepSize : Kind → ℕ → ℕ → (ℕ → Tree) → ℕ → ℕ
 stepSize kind a b tree d = cond (ltb d partA) 1 (fieldSize (partUse kind d) (tree (partOf d a b)))

@@ -82,7 +82,7 @@ module _ (x y z : Bool) where
   stands-bits = same _ _ (at3 (λ x y z. both (leb 4 (bits x y z)) x) refl x y z)
 
 -- ---- one record
-module _ {s : List ℕ} {A : ℕ} (w : WellFormed false s A) {r : ℕ} (l : r < count s) where
+module _ {s : List ℕ} {A : ℕ} (w : WellFormed core s A) {r : ℕ} (l : r < count s) where
   pub core-kind : kindByte s r < 11
   core-kind =
       elim (either-sort (sortOf (kindAt s r)))
@@ -161,13 +161,13 @@ module _ {s : List ℕ} {r : ℕ} {ways : List ℕ} (w : Scanned s r ways) where
   grounds = ground12 s r ∷ ground11 s r ∷ []
 
   pub other-grounds : kindByte s r ≢ 10 → 0 ≡ firstOf grounds
-  unfolding firstOf ground11 ground12
+  unfolding ofFirst ground11 ground12
   other-grounds o = rw (no-star (kindByte s r) o)
 
   -- A star's, by what its body may do.
   pub star-grounds : {n a : ℕ} → n ≡ kindByte s r → n ≡ 10 → a ≡ fieldA s r
       → let body = getD ways a 0 in firstOf grounds ≡ cond (eqb (bitAnd body 3) 3) 12 (cond (leb 4 body) 11 0)
-  unfolding kindOf kinds columnsOf firstOf ground11 ground12 isStar waysOf
+  unfolding kindOf kinds columnsOf ofFirst ground11 ground12 isStar waysOf
   star-grounds n ten a = let e = sym n ∙ ten in rw (a, part-first (rw e), turns-bits, stands-bits, e)
 
 -- Where they give no number, none applies.

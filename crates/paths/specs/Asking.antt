@@ -17,10 +17,10 @@ use Rattle.meaning.specs.WellFormed.{WellFormed}
 
 pub record Formed (s : List ℕ) : Type 0 where
   pub atoms : ℕ
-  pub formed : WellFormed false s atoms
+  pub formed : WellFormed core s atoms
 
 abbrev pub Ready : List ℕ → ℕ → Type 0
-Ready s A = WellFormed false s A
+Ready s A = WellFormed core s A
 
 -- The number with three bits.
 abbrev pub bits : Bool → Bool → Bool → ℕ

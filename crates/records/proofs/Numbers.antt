@@ -7,7 +7,7 @@ use mathlib.Core.List.{List}
 use mathlib.Core.Logic.{_⊎_, inl, inr}
 use native.Mathlib.Omega.{arith}
 use lib.Dec.{eqb}
-use Rattle.meaning.specs.Record.{constant, atom, modal, move, test, choice, sequence, star, kinds, kindOf, kindAt, columnsOf}
+use Rattle.meaning.specs.Record.{core, constant, atom, modal, move, test, choice, sequence, star, kinds, kindOf, kindAt, columnsOf}
 use Rattle.meaning.specs.Record.{kindByte, count, known, formula, path, sortOf}
 use Rattle.meaning.specs.WellFormed.{WellFormed}
 use Rattle.meaning.proofs.Bounds.{le-or-lt}
@@ -55,21 +55,21 @@ unfolding kindOf kinds
 star-kind = refl
 
 -- ---- the numbers of records
-core-number : (n : ℕ) → known false (kindOf n) ≡ true → n < 11
+core-number : (n : ℕ) → known core (kindOf n) ≡ true → n < 11
 unfolding known kinds
 core-number n h =
     elim (le-or-lt 11 n)
-    [ inl l ↦ absurd (true≢false (sym h ∙ sym (onward (known false) 11 37 refl n l))) | inr l ↦ l ]
+    [ inl l ↦ absurd (true≢false (sym h ∙ sym (onward (known core) 11 37 refl n l))) | inr l ↦ l ]
 
-pub formula-number : {s : List ℕ} {A : ℕ} → WellFormed false s A → (r : ℕ) → r < count s → sortOf (kindAt s r) ≡ formula
+pub formula-number : {s : List ℕ} {A : ℕ} → WellFormed core s A → (r : ℕ) → r < count s → sortOf (kindAt s r) ≡ formula
     → kindByte s r < 5
 unfolding columnsOf kinds
 formula-number {s} w r l e =
     let n = kindByte s r in
-    let core = core-number n (w .kinds r l) in
-    elim (le-or-lt 5 n) [ inl h ↦ absurd (differs e (sym (stretch sortOf path 5 6 refl n h core))) | inr h ↦ h ]
+    let low = core-number n (w .kinds r l) in
+    elim (le-or-lt 5 n) [ inl h ↦ absurd (differs e (sym (stretch sortOf path 5 6 refl n h low))) | inr h ↦ h ]
 
-pub path-number : {s : List ℕ} {A : ℕ} → WellFormed false s A → (r : ℕ) → r < count s → sortOf (kindAt s r) ≡ path
+pub path-number : {s : List ℕ} {A : ℕ} → WellFormed core s A → (r : ℕ) → r < count s → sortOf (kindAt s r) ≡ path
     → (5 ≤ kindByte s r) × (kindByte s r < 11)
 unfolding columnsOf kinds
 path-number {s} w r l e =

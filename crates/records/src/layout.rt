@@ -3,7 +3,7 @@ ghost use mathlib.Core.Path.{_≡_};
 ghost use Prim.Native.Nat.{_+_, _*_, _<_};
 ghost use lib.ListN.{length};
 ghost use lib.Seq.{sets};
-ghost use Rattle.meaning.specs.Record.{recordSize, mostRecords, recordBytes, count, word, kindByte, zeroByte, fieldA, fieldB};
+ghost use Rattle.meaning.specs.Record.{recordSize, mostRecords, bytesOf, count, twoBytes, kindByte, zeroByte, fieldA, fieldB};
 
 // The bytes of one record.
 pub const RECORD_SIZE: usize = 6;
@@ -53,7 +53,7 @@ pub fn field_b(s: &[u8], r: usize) -> usize
 // Two bytes, low byte first.
 fn word_at(s: &[u8], i: usize) -> usize
     requires { ⌜ i + 1 < length (now s) ⌝ }
-    ensures { λ w. ⌜ w ≡ word (now (s .entry)) i ⌝ }
+    ensures { λ w. ⌜ w ≡ twoBytes (now (s .entry)) i ⌝ }
 {
     wide(s[i]) + 256 * wide(s[i + 1])
 }
@@ -68,7 +68,7 @@ fn wide(x: u8) -> usize
 // Writes one record as number n, its zero byte too.
 pub fn put_record(buffer: &mut [u8; MOST_BYTES], n: usize, kind: u8, a: usize, b: usize)
     requires { ⌜ (n < mostRecords) × (a < 65_536) × (b < 65_536) ⌝ }
-    ensures { λ _. ⌜ now (buffer .exit) ≡ sets (now (buffer .entry)) (recordSize * n) (recordBytes kind a b) ⌝ }
+    ensures { λ _. ⌜ now (buffer .exit) ≡ sets (now (buffer .entry)) (recordSize * n) (bytesOf kind a b) ⌝ }
 {
     let at = RECORD_SIZE * n;
     buffer[at] = kind;

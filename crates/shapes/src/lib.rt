@@ -1,7 +1,7 @@
 // What a record's kind says: its sort, what its fields hold, and which services take it.
 ghost use mathlib.Core.Path.{_≡_};
 ghost use Rattle.meaning.specs.Record.{kindOf, sortOf, useA, useB, known};
-ghost use Rattle.shapes.specs.Uses.{sortCode, useCode};
+ghost use Rattle.shapes.specs.Uses.{sortCode, useCode, languageOf};
 use records::kind;
 
 // What a field holds. The last two number the sorts of records too.
@@ -47,13 +47,18 @@ pub fn sort_of(kind: u8) -> u8
     }
 }
 
-// Whether a service takes the kind: the core, and the shorthands where `full` says so.
-pub fn takes(full: bool, kind: u8) -> bool
-    ensures { λ t. ⌜ t ≡ known full (kindOf kind) ⌝ }
+// The languages of formulas: core kinds alone, or shorthands too.
+pub const CORE: u8 = 0;
+
+pub const FULL: u8 = 1;
+
+// Whether the kind is one of the language.
+pub fn takes(language: u8, kind: u8) -> bool
+    ensures { λ t. ⌜ t ≡ known (languageOf language) (kindOf kind) ⌝ }
 {
     match kind {
         kind::FALSE..=kind::STAR => true,
-        kind::NOT..=kind::SINCE => full,
+        kind::NOT..=kind::SINCE => language == FULL,
         _ => false,
     }
 }

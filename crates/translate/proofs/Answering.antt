@@ -31,15 +31,15 @@ module _ (s : List ℕ) (A room : ℕ) where
     roomed = clear-skip (starredGrounds s A) last (starred-clear s A e)
 
     pub refused-room : room < ruleSize * length (translation s A) → 10 ≡ whole
-    unfolding ground10 firstOf
+    unfolding ground10 ofFirst
     refused-room h = sym (roomed ∙ rw (lt-ltb room (ruleSize * length (translation s A)) h))
 
     pub not-refused : ruleSize * length (translation s A) ≤ room → 0 ≡ whole
-    unfolding ground10 firstOf
+    unfolding ground10 ofFirst
     not-refused h = sym (roomed ∙ rw (le-ltb room (ruleSize * length (translation s A)) h))
 
   -- So at 0 the records are a formula's, and there is room for all rules.
-  pub accepted : whole ≡ 0 → WellFormed false s A × (ruleSize * length (translation s A) ≤ room)
+  pub accepted : whole ≡ 0 → WellFormed core s A × (ruleSize * length (translation s A) ≤ room)
   unfolding translateGrounds ground10
   accepted e =
       let numbered = numbered-append (starredGrounds s A) last (starred-numbered s A) (omega arith, tt) in

@@ -1,17 +1,16 @@
--- The grounds of valuing. After a length that is right and sizes that fit stand the grounds of the records, the cells
--- and the room; and where no ground applies, the records are a tree, the cells a trace, and the table has room.
+-- The grounds of valuing. After those of the formula, the sizes' among them, stand those of the cells and the room; and where no ground applies, the records are a tree, the cells a trace, and the table has room.
 use Prim.Native.Nat.{ℕ, _*_, _<_, _≤_}
 use mathlib.Core.Path.{_≡_, refl, sym, _∙_}
-use mathlib.Core.Bool.{true, false}
+use mathlib.Core.Bool.{Bool, true, false}
 use mathlib.Core.List.{List, [], _∷_, _++_}
 use native.Mathlib.Omega.{arith}
 use borrow.Author.Tests.{lt-ltb, le-ltb, ltb-false}
-use Rattle.meaning.specs.Record.{core, count}
-use Rattle.meaning.specs.Refusal.{ofFirst, Ground, firstOf, ground1, ground8, ground8-cells, grounds9, ground10}
-use Rattle.meaning.specs.Refusal.{treeGrounds, valueGrounds, mostAtoms}
+use Rattle.meaning.specs.Record.{core, mostRecords, count}
+use Rattle.meaning.specs.Refusal.{ofFirst, Ground, ground, firstOf, ground1, ground8, ground8-cells, grounds9, ground10}
+use Rattle.meaning.specs.Refusal.{treeGrounds, valueGrounds, mostAtoms, mostInstants}
 use Rattle.meaning.proofs.First.{Numbered, none-clear, clear-append, clear-skip, found-stop}
-use Rattle.meaning.proofs.First.{numbered-append, stop, pass}
-use Rattle.meaning.proofs.Accepted.{clear-well-formed, tree-numbered}
+use Rattle.meaning.proofs.First.{numbered-append}
+use Rattle.meaning.proofs.Accepted.{ground1-fails, clear-well-formed, tree-numbered}
 use Rattle.trace.proofs.Fitting.{size-fits, cells-numbered, cells-low}
 use Rattle.value.specs.Valuing.{Legal}
 
@@ -48,41 +47,45 @@ module _ (s : List ℕ) (A L : ℕ) (cells : List ℕ) (room : ℕ) where
       }
 
   -- ---- the first that applies, test by test
-  pub refused-1 : ground1 s .applies ≡ true → 1 ≡ all
-  unfolding valueGrounds ground1
-  refused-1 e = stop (ground1 s) _ refl refl e
+  -- What is asked of the formula; `wrong` is the test of the sizes as it was made.
+  module _ {wrong : Bool} (test : wrong ≡ ground8-cells mostAtoms A L cells .applies) where
+    abbrev formula : List Ground
+    formula = ground1 s ∷ ground 8 wrong ∷ treeGrounds core s A
 
-  module _ (right : ground1 s .applies ≡ false) where
-    sized : all ≡ firstOf (ground8-cells mostAtoms A L cells ∷ treeGrounds core s A ++ (grounds9 cells ++ last))
-    unfolding valueGrounds
-    sized = pass (ground1 s) _ refl refl right
+    after : all ≡ firstOf (formula ++ (grounds9 cells ++ last))
+    unfolding valueGrounds ground8-cells
+    after = rw test
 
-    pub refused-8 : ground8-cells mostAtoms A L cells .applies ≡ true → 8 ≡ all
-    unfolding ground8-cells
-    refused-8 e = stop (ground8-cells mostAtoms A L cells) _ sized refl e
+    formula-numbered : Numbered formula
+    unfolding ground1
+    formula-numbered = (omega arith, (omega arith, tree-numbered core s A))
 
-    module _ (fits : ground8-cells mostAtoms A L cells .applies ≡ false) where
-      treed : all ≡ firstOf (treeGrounds core s A ++ (grounds9 cells ++ last))
-      treed = pass (ground8-cells mostAtoms A L cells) _ sized refl fits
+    pub refused-formula : {x : ℕ} → x ≡ firstOf formula → (x ≡ 0 → ⊥) → x ≡ all
+    refused-formula e n = e ∙ sym (after ∙ found-stop formula _ (λ z. n (e ∙ z)))
 
-      pub refused-tree : {x : ℕ} → x ≡ firstOf (treeGrounds core s A) → (x ≡ 0 → ⊥) → x ≡ all
-      refused-tree e n = e ∙ sym (treed ∙ found-stop (treeGrounds core s A) _ (λ z. n (e ∙ z)))
+    module _ (taken : firstOf formula ≡ 0) where
+      -- There are few records, and few instants.
+      pub sized : (count s ≤ mostRecords) × (L ≤ mostInstants)
+      sized =
+          let (right, (fits, _)) = none-clear formula formula-numbered taken in
+          let (_, _, few) = ground1-fails s .0 right in
+          let (_, _, short, _) = size-fits mostAtoms A L cells (sym test ∙ fits) in
+          (few, short)
 
-      module _ (tree : firstOf (treeGrounds core s A) ≡ 0) where
-        celled : all ≡ firstOf (grounds9 cells ++ last)
-        celled = treed ∙ clear-skip (treeGrounds core s A) _ (none-clear _ (tree-numbered core s A) tree)
+      celled : all ≡ firstOf (grounds9 cells ++ last)
+      celled = after ∙ clear-skip formula _ (none-clear formula formula-numbered taken)
 
-        pub refused-cells : {y : ℕ} → y ≡ firstOf (grounds9 cells) → (y ≡ 0 → ⊥) → y ≡ all
-        refused-cells e n = e ∙ sym (celled ∙ found-stop (grounds9 cells) _ (λ z. n (e ∙ z)))
+      pub refused-cells : {y : ℕ} → y ≡ firstOf (grounds9 cells) → (y ≡ 0 → ⊥) → y ≡ all
+      refused-cells e n = e ∙ sym (celled ∙ found-stop (grounds9 cells) _ (λ z. n (e ∙ z)))
 
-        module _ (low : firstOf (grounds9 cells) ≡ 0) where
-          roomed : all ≡ firstOf last
-          roomed = celled ∙ clear-skip (grounds9 cells) _ (none-clear _ (cells-numbered cells) low)
+      module _ (low : firstOf (grounds9 cells) ≡ 0) where
+        roomed : all ≡ firstOf last
+        roomed = celled ∙ clear-skip (grounds9 cells) _ (none-clear _ (cells-numbered cells) low)
 
-          pub refused-room : room < count s * L → 10 ≡ all
-          unfolding ground10 ofFirst
-          refused-room h = sym (roomed ∙ rw (lt-ltb room (count s * L) h))
+        pub refused-room : room < count s * L → 10 ≡ all
+        unfolding ground10 ofFirst
+        refused-room h = sym (roomed ∙ rw (lt-ltb room (count s * L) h))
 
-          pub not-refused : count s * L ≤ room → 0 ≡ all
-          unfolding ground10 ofFirst
-          not-refused h = sym (roomed ∙ rw (le-ltb room (count s * L) h))
+        pub not-refused : count s * L ≤ room → 0 ≡ all
+        unfolding ground10 ofFirst
+        not-refused h = sym (roomed ∙ rw (le-ltb room (count s * L) h))

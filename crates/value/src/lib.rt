@@ -42,13 +42,8 @@ pub fn value(records: &[u8], atoms: u64, instants: u64, cells: &[u8], out: &mut 
 fn first_refusal(records: &[u8], atoms: u64, instants: u64, cells: &[u8], room: usize) -> u8
     ensures { λ x. ⌜ x ≡ firstOf (valueGrounds (now (records .entry)) atoms instants (now (cells .entry)) room) ⌝ }
 {
-    if refusal::wrong_length(records) {
-        return refusals::WRONG_LENGTH;
-    }
-    if trace::wrong_size(layout::MOST_ATOMS, atoms, instants, cells) {
-        return refusals::WRONG_SIZE;
-    }
-    let x = refusal::tree_refusal(records, false, atoms);
+    let wrong_size = trace::wrong_size(layout::MOST_ATOMS, atoms, instants, cells);
+    let x = refusal::formula_refusal(records, shapes::CORE, atoms, wrong_size);
     if x != refusals::ACCEPTED {
         return x;
     }

@@ -44,7 +44,7 @@ formula-same star m n x a b c d i e = absurd (differs e refl)
 formula-same (shorthand σ) m n x a b c d i e = refl
 formula-same unknown m n x a b c d i e = refl
 
-mode-again : (m : Mode) → modeOf (modalNumber m) ≡ m
+mode-again : (m : Mode) → modeOf (numberOf (modal m)) ≡ m
 unfolding modeOf modalNumber
 mode-again diamond = refl
 mode-again box = refl
@@ -60,7 +60,7 @@ pub record-counted : (s : List ℕ) (A r : ℕ) → length (rulesAt s A r) ≡ r
 unfolding rulesAt
 record-counted s A r = rules-counted (kindAt s r) (context s r .mode) _ _ _ _ _
 
-module _ {s : List ℕ} {A : ℕ} (w : WellFormed false s A) {r : ℕ} (l : r < count s) where
+module _ {s : List ℕ} {A : ℕ} (w : WellFormed core s A) {r : ℕ} (l : r < count s) where
   abbrev entry : ℕ
   entry = getD (contextsOf s) r 0
 

@@ -1,19 +1,23 @@
 -- `expand` meets its contract: a refusal of the records is the answer, and otherwise they are a formula, whose size decides.
 use mathlib.Core.Path.{sym, _∙_}
-use mathlib.Core.Bool.{true}
 use native.Mathlib.Omega.{arith}
 use borrow.Author.Needs.{needs}
 use borrow.Author.Tests.{ne-eqb}
+use Rattle.meaning.specs.Refusal.{ground8}
 use Rattle.meaning.specs.WellFormed.{WellFormed}
+use Rattle.meaning.specs.Record.{full}
 use Rattle.meaning.proofs.Accepted.{accepted}
+use Rattle.shapes.specs.Uses.{languageOf}
 use Rattle.expand.proofs.SizeGrounds.{whole-sized, whole-refused, answers}
 use Rattle.expand.proofs.expand.Statement.{statement}
 use Rattle.expand.proofs.expand.Tie as tie
 
-formed : (c : tie.Else1) → let a = c .before .before .before .before .args in WellFormed true (a .records .now) (a .atoms)
-formed c = accepted true _ _ .0 (sym (c .before .formula-refusal .ensures) ∙ c .if1 .left)
+formed : (c : tie.Else1) → let a = c .before .before .before .before .args in WellFormed full (a .records .now) (a .atoms)
+unfolding ground8 languageOf
+formed c = accepted full _ _ .0 (sym (c .before .formula-refusal .ensures) ∙ c .if1 .left)
 
 returns : tie.Need-returns
+unfolding ground8 languageOf
 returns c =
     let refused = ne-eqb _ 0 (c .if1 .taken) in
     answers _ _ _ (whole-refused _ _ _ (c .before .formula-refusal .ensures) (c .if1 .taken)) (rw refused) (rw refused)

@@ -1,12 +1,12 @@
 -- `size_refusal` meets its contract: its tests are the two grounds.
 use borrow.Author.Needs.{needs}
 use borrow.Author.Tests.{lt-ltb, le-ltb}
-use Rattle.meaning.specs.Refusal.{firstOf, ground10, ground14}
+use Rattle.meaning.specs.Refusal.{ofFirst, firstOf, ground10, ground14}
 use Rattle.expand.proofs.size_refusal.Statement.{statement}
 use Rattle.expand.proofs.size_refusal.Tie as tie
 
 pub size-refusal-spec : {M : Type 1} → statement M
-unfolding firstOf ground14 ground10
+unfolding ofFirst ground14 ground10
 size-refusal-spec =
     tie.close
     (tie.spec

@@ -22,7 +22,7 @@ start c = c .before .before .before
 none : (c : tie.Else1) → firstOf (starredGrounds (start c .args .records .now) (start c .args .atoms)) ≡ 0
 none c = sym (c .before .formula-refusal .ensures) ∙ c .if1 .left
 
-formed : (c : tie.Else1) → WellFormed false (start c .args .records .now) (start c .args .atoms)
+formed : (c : tie.Else1) → WellFormed core (start c .args .records .now) (start c .args .atoms)
 formed c = starred-formed _ _ (none c)
 
 -- The count is that of the rules.

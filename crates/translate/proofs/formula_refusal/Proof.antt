@@ -16,7 +16,7 @@ returns c =
     let e = c .before .check .ensures in
     e ∙ sym (found-stop (checkGrounds _ _) (starGrounds _) (λ z. c .if1 .taken (e ∙ z)))
 
-formed : (c : tie.Else1) → let a = c .before .before .before .args in WellFormed false (a .records .now) (a .atoms)
+formed : (c : tie.Else1) → let a = c .before .before .before .args in WellFormed core (a .records .now) (a .atoms)
 formed c = check-accepts _ _ .0 (sym (c .before .check .ensures) ∙ c .if1 .left)
 
 stars-refusal-requires : tie.Need-stars-refusal-requires

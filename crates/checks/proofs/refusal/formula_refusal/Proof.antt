@@ -1,7 +1,7 @@
--- `refusal::formula_refusal` meets its contract: the length decides, then the number of atoms, then the records as a tree.
+-- `refusal::formula_refusal` meets its contract: the length decides, then the sizes, then the records as a tree.
 use mathlib.Core.Path.{_≡_, sym, _∙_}
 use mathlib.Core.Bool.{false}
-use Rattle.meaning.specs.Refusal.{firstOf, ground1, ground8}
+use Rattle.meaning.specs.Refusal.{ofFirst, ground1}
 use Rattle.meaning.proofs.Accepted.{ground1-fails}
 use borrow.Author.Needs.{needs}
 use Rattle.checks.proofs.refusal.formula_refusal.Statement.{statement}
@@ -12,21 +12,19 @@ right : (c : tie.Else1) → ground1 (c .before .before .before .args .s .now) .a
 right c = sym (c .before .wrong-length .ensures) ∙ c .if1 .left
 
 tree-refusal-requires : tie.Need-tree-refusal-requires
-tree-refusal-requires c κs = let (_, some, few) = ground1-fails _ .0 (right (c .before .before)) in (some, few)
+tree-refusal-requires c κs = let (_, some, few) = ground1-fails _ .0 (right (c .before)) in (some, few)
 
 returns-3 : tie.Need-returns-3
-unfolding firstOf
+unfolding ofFirst
 returns-3 c =
-    let few = sym (c .before .before .too-many .ensures) ∙ c .before .if2 .left in
-    rw (right (c .before .before .before), few) (c .tree-refusal .ensures)
+    rw (right (c .before .before), c .before .if2 .left) (c .tree-refusal .ensures)
 
 pub formula-refusal-spec : {M : Type 1} → statement M
-unfolding firstOf ground1 ground8
+unfolding ofFirst ground1
 formula-refusal-spec =
     tie.close
     (tie.spec
     (λ c κs. search needs)
     (λ c. rw (sym (c .before .wrong-length .ensures) ∙ c .if1 .taken))
-    (λ c κs. search needs)
-    (λ c. rw (right (c .before .before), sym (c .before .too-many .ensures) ∙ c .if2 .taken))
+    (λ c. rw (right (c .before), c .if2 .taken))
     tree-refusal-requires returns-3)

@@ -6,13 +6,14 @@ use borrow.Author.Needs.{needs}
 use borrow.Author.Tests.{eq-eqb, ne-eqb}
 use denote.Ref.{now}
 use Rattle.meaning.specs.Record.{kindAt, known}
+use Rattle.shapes.specs.Uses.{languageOf}
 use Rattle.checks.proofs.Order.{by-record}
 use Rattle.checks.proofs.refusal.record_refusal.Statement.{statement}
 use Rattle.checks.proofs.refusal.record_refusal.Tie as tie
 
 kind-test : (c : tie.After-takes)
     → let a = c .before .before .before .args in
-    not (c .takes .result) ≡ not (known (a .full) (kindAt (now (a .s)) (a .r)))
+    not (c .takes .result) ≡ not (known (languageOf (a .language)) (kindAt (now (a .s)) (a .r)))
 kind-test c = rw (c .takes .ensures, c .before .kind-at .ensures)
 
 returns : tie.Need-returns

@@ -4,6 +4,7 @@ use mathlib.Core.Path.{_≡_, sym, _∙_}
 use Rattle.meaning.specs.Run.{each}
 use Rattle.meaning.specs.Refusal.{recordGrounds}
 use Rattle.meaning.proofs.First.{Clear, scan-none, scan-more, scan-found, scan-done, none-clear}
+use Rattle.shapes.specs.Uses.{languageOf}
 use Rattle.checks.specs.Places.{Places}
 use Rattle.checks.proofs.Scan.{record-numbered}
 use native.Mathlib.Omega.{arith}
@@ -12,10 +13,10 @@ use Rattle.checks.proofs.refusal.records_refusal.Statement.{statement}
 use Rattle.checks.proofs.refusal.records_refusal.Tie as tie
 
 abbrev Inv-loop : tie.InvT-loop
-Inv-loop s full atoms counts₀ n r₀ counts r = (r ≤ n) × Clear (each r (recordGrounds full s atoms)) × Places s r counts
+Inv-loop s language atoms counts₀ n r₀ counts r = (r ≤ n) × Clear (each r (recordGrounds (languageOf language) s atoms)) × Places s r counts
 
 abbrev μ-loop : tie.MeasureT-loop
-μ-loop s full atoms counts₀ n r₀ counts r = n - r
+μ-loop s language atoms counts₀ n r₀ counts r = n - r
 
 returns : tie.Need-returns Inv-loop μ-loop
 returns c =

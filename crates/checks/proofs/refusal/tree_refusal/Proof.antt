@@ -1,5 +1,6 @@
 -- `refusal::tree_refusal` meets its contract: the records decide, then the last record's sort, then the places.
 use mathlib.Core.Path.{sym, _∙_}
+use Rattle.shapes.specs.Uses.{languageOf}
 use Rattle.checks.proofs.Counting.{none}
 use Rattle.checks.proofs.Scan.{tree-record, Past, tree-after}
 use borrow.Author.Needs.{needs}
@@ -9,7 +10,7 @@ use Rattle.checks.proofs.refusal.tree_refusal.Tie as tie
 -- What is known once the last record's sort is read.
 past : (c : tie.After-sort-of)
     → let a = c .before .before .before .before .before .before .before .args in
-    Past (a .full) (a .s .now) (a .atoms) (c .sort-of .result)
+    Past (languageOf (a .language)) (a .s .now) (a .atoms) (c .sort-of .result)
 past c =
     let d = c .before .before in
     tree-after _ _ _

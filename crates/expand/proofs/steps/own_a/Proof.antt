@@ -4,6 +4,7 @@ use borrow.Author.Tests.{lt-ltb, le-ltb, eq-eqb, ne-eqb}
 use Rattle.expand.specs.Steps.{oneChild, noChild, atomStep, ownA}
 use Rattle.expand.proofs.steps.own_a.Statement.{statement}
 use Rattle.expand.proofs.steps.own_a.Tie as tie
+use Rattle.meaning.specs.Record.{numberOf}
 
 returns-2 : tie.Need-returns-2
 unfolding ownA
@@ -12,13 +13,13 @@ returns-2 c =
     rw (le-ltb _ oneChild (two .before .if1 .left), lt-ltb _ noChild (two .if2 .taken)) (c .one-less2 .ensures)
 
 returns-3 : tie.Need-returns-3
-unfolding ownA
+unfolding ownA numberOf
 returns-3 c =
     let two = c .before in
     rw (le-ltb _ oneChild (two .before .if1 .left), le-ltb _ noChild (two .if2 .left), eq-eqb _ atomStep (c .if3 .taken))
 
 returns-4 : tie.Need-returns-4
-unfolding ownA
+unfolding ownA numberOf
 returns-4 c =
     let two = c .before in
     rw (le-ltb _ oneChild (two .before .if1 .left), le-ltb _ noChild (two .if2 .left), ne-eqb _ atomStep (c .if3 .left))

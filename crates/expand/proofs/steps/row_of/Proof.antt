@@ -6,9 +6,8 @@ use mathlib.Core.Bool.{Bool, true, false}
 use lib.Dec.{ltb}
 use borrow.Author.Tests.{ltb-true, ltb-false}
 use native.Mathlib.Omega.{arith}
-use Rattle.meaning.specs.Record.{kinds, kindOf}
+use Rattle.meaning.specs.Record.{numberOf, kinds, kindOf}
 use Rattle.meaning.specs.Shorthand.{expansion}
-use Rattle.meaning.specs.Tree.{modalNumber, moveNumber}
 use Rattle.records.proofs.Ranges.{stretch, onward}
 use Rattle.expand.specs.Steps.{formSteps, pathSteps, stepsOf, digits, rowOf}
 use Rattle.expand.proofs.steps.row_of.Statement.{statement}
@@ -30,7 +29,7 @@ others-before A k start zero none = none
 others-before A k start (suc size) (none, other) = others-before A k start size none
 
 no-kind : tie.Need-returns-28
-unfolding Others kinds stepsOf digits formSteps pathSteps expansion modalNumber moveNumber
+unfolding Others kinds stepsOf digits formSteps pathSteps expansion numberOf
 no-kind c = go (ltb (c .before .args .kind) 32) refl
   where
     go : (low : Bool) → ltb (c .before .args .kind) 32 ≡ low → 1 ≡ rowOf (kindOf (c .before .args .kind))
@@ -38,7 +37,7 @@ no-kind c = go (ltb (c .before .args .kind) 32) refl
     go false e = onward rowOf 48 0 refl _ (others-after (Others Unit _ 0 11) _ 32 16 (c .match .rest) (ltb-false _ _ e))
 
 pub row-of-spec : {M : Type 1} → statement M
-unfolding kinds kindOf stepsOf digits formSteps pathSteps expansion modalNumber moveNumber
+unfolding kinds kindOf stepsOf digits formSteps pathSteps expansion numberOf
 row-of-spec =
     tie.close
     (tie.spec

@@ -17,7 +17,7 @@ abbrev μ-loop : tie.MeasureT-loop
 μ-loop rules width n i₀ i = n - i
 
 returns : tie.Need-returns Inv-loop μ-loop
-unfolding firstOf ground13
+unfolding ofFirst ground13
 returns c =
     let test = c .before in
     let bad = rw (test .before .rule-at .ensures) at (sym (test .is-bad .ensures) ∙ c .if1 .taken) in

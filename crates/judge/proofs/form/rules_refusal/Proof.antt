@@ -6,7 +6,7 @@ use Rattle.judge.proofs.form.rules_refusal.Statement.{statement}
 use Rattle.judge.proofs.form.rules_refusal.Tie as tie
 
 pub rules-refusal-spec : {M : Type 1} → statement M
-unfolding firstOf ground13-length
+unfolding ofFirst ground13-length
 rules-refusal-spec =
     tie.close
     (tie.spec
