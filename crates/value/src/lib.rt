@@ -42,7 +42,7 @@ pub fn value(records: &[u8], atoms: u64, instants: u64, cells: &[u8], out: &mut 
 fn first_refusal(records: &[u8], atoms: u64, instants: u64, cells: &[u8], room: usize) -> u8
     ensures { λ x. ⌜ x ≡ firstOf (valueGrounds (now (records .entry)) atoms instants (now (cells .entry)) room) ⌝ }
 {
-    let wrong_size = trace::wrong_size(layout::MOST_ATOMS, atoms, instants, cells);
+    let wrong_size = trace::wrong_size(layout::MOST_ATOMS as u16, atoms, instants, cells);
     let x = refusal::formula_refusal(records, shapes::CORE, atoms, wrong_size);
     if x != refusals::ACCEPTED {
         return x;
