@@ -20,7 +20,7 @@ def public_functions():
         for module in re.findall(r"^pub mod (\w+);", lib.read_text(), re.M):
             modules[module] = lib.with_name(module + ".rt")
         for module, path in modules.items():
-            for found in re.finditer(r'^pub (?:extern "C" )?fn (\w+)(.*?)^\{', path.read_text(), re.M | re.S):
+            for found in re.finditer(r'^pub (?:extern "C" )?fn (\w+)(.*?)(?:^\{|\) \{$)', path.read_text(), re.M | re.S):
                 parts = [name] + ([module] if module else []) + [found[1]]
                 yield "::".join(parts), parts, found[2]
 

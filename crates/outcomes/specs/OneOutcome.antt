@@ -72,8 +72,6 @@ pub record OneOutcome : Type 0 where
   pub sort-of : OneFits shapes.sort_of.Kinds.ps shapes.sort_of.Kinds.r shapes.sort_of.Reads.Post
   pub takes : OneFits shapes.takes.Kinds.ps shapes.takes.Kinds.r shapes.takes.Reads.Post
   -- checks
-  pub wrong-length : OneFits refusal.wrong_length.Kinds.ps refusal.wrong_length.Kinds.r refusal.wrong_length.Reads.Post
-  pub tree-refusal : OneFits refusal.tree_refusal.Kinds.ps refusal.tree_refusal.Kinds.r refusal.tree_refusal.Reads.Post
   pub formula-refusal : OneFits refusal.formula_refusal.Kinds.ps refusal.formula_refusal.Kinds.r refusal.formula_refusal.Reads.Post
   pub check : OneFits checks.check.Kinds.ps checks.check.Kinds.r checks.check.Reads.Post
   -- paths
