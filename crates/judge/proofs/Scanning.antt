@@ -1,74 +1,62 @@
--- The first failure. What fails is listed rule by rule, and instant by instant inside a rule. While nothing was found the
--- list is empty so far, and what is found next is then its first, however far the list goes; this serves a rule's
--- instants and the rules alike.
-use Prim.Native.Nat.{ℕ, zero, suc, _+_, _<_, _≤_}
-use mathlib.Core.Path.{_≡_, refl}
-use mathlib.Core.Bool.{cond}
+-- The first failure. A rule says nothing of instants that its place doesn't have, so it holds everywhere if it holds from the place's start
+-- up to its end. Where each rule before holds everywhere, and this one at each instant before, a failure here is the first.
+use Prim.Native.Nat.{ℕ, _+_, _<_, _≤_}
+use mathlib.Core.Path.{_≡_, sym, _∙_}
+use mathlib.Core.Bool.{Bool, true, false, not}
 use mathlib.Core.Logic.{⊎-elim}
-use mathlib.Core.List.{List, [], _∷_, _++_}
-use native.Mathlib.Nat.{eq-or-lt-of-le, le-of-suc-le-suc}
+use mathlib.Core.List.{List}
+use native.Mathlib.Nat.{le-refl, eq-or-lt-of-le, le-of-suc-le-suc}
 use native.Mathlib.Numerals.{add-one}
 use native.Mathlib.Omega.{arith}
-use Rattle.meaning.specs.Run.{each}
-use Rattle.meaning.specs.Rule.{ruleAt}
-use Rattle.meaning.specs.Judge.{Verdict, yes, no, ruleCount, failsAt, failures, firstFailure, verdict}
-use Rattle.judge.specs.Filled.{FirstWhere}
-
-first-stays : (xs ys : List Verdict) {i k : ℕ} → firstFailure xs ≡ no i k → firstFailure (xs ++ ys) ≡ no i k
-unfolding firstFailure
-first-stays [] ys e = cc
-first-stays (x ∷ xs) ys e = e
-
-module _ (f : ℕ → List Verdict) where
-  pub none : each 0 f ≡ []
-  unfolding each
-  none = refl
-
-  pub more : (n : ℕ) → each n f ≡ [] → f n ≡ [] → each (n + 1) f ≡ []
-  unfolding each
-  more n e h = rw (add-one, e) h
-
-  pub done : (n q : ℕ) → q ≡ n → each q f ≡ [] → each n f ≡ []
-  done n q d e = rw (← d) e
-
-  -- Where nothing fails from q on.
-  on : (n q : ℕ) → q ≤ n → each q f ≡ [] → ((j : ℕ) → q ≤ j → j < n → f j ≡ []) → each n f ≡ []
-  unfolding each
-  on zero q l e h = refl
-  on (suc n) q l e h =
-      ⊎-elim
-      (λ (d : q ≡ suc n). done (suc n) q d e)
-      (λ (m : q < suc n). rw (on n q (omega arith) e (λ j a b. h j a (omega arith))) (h n (omega arith) (omega arith)))
-      (eq-or-lt-of-le l)
-
-  found : (n q : ℕ) {i k : ℕ} → q < n → each q f ≡ [] → firstFailure (f q) ≡ no i k → firstFailure (each n f) ≡ no i k
-  unfolding each
-  found zero q l e h = absurd (omega arith)
-  found (suc n) q l e h =
-      ⊎-elim
-      (λ (d : q ≡ n). rw (← d, e) h)
-      (λ (m : q < n). first-stays (each n f) (f n) (found n q m e h))
-      (eq-or-lt-of-le (le-of-suc-le-suc l))
+use borrow.Author.Tests.{not-true, not-false}
+use Rattle.meaning.specs.Rule.{Rule, ruleAt, holds}
+use Rattle.meaning.specs.Judge.{no, ruleCount, verdict, HoldsAt}
+use Rattle.meaning.proofs.Judging.{no-means}
+use Rattle.judge.proofs.PlaceStretch.{Stretch}
 
 module _ (ws : List ℕ) (L : ℕ) (cell : ℕ → ℕ → ℕ) where
-  -- Where the rule i fails, at one instant and at all.
-  abbrev pub failing : ℕ → ℕ → List Verdict
-  failing i k = cond (failsAt L cell (ruleAt ws i) k) (no i k ∷ []) []
+  -- Each rule before i holds at all its instants.
+  abbrev pub RulesHold : ℕ → Type 0
+  RulesHold i = (q j : ℕ) → q < i → j < L → HoldsAt ws L cell q j
 
-  abbrev pub rule-failing : ℕ → List Verdict
-  rule-failing i = each L (failing i)
+  -- Rule i has the instants from a up to b, and holds at those before k.
+  pub record Scanned (i a b k : ℕ) : Type 0 where
+    pub stretch : Stretch L (ruleAt ws i .place) a b
+    pub from : a ≤ k
+    pub up-to : k ≤ b
+    pub held : (j : ℕ) → j < k → HoldsAt ws L cell i j
 
-  module _ (i : ℕ) {k : ℕ} (first : FirstWhere L (failsAt L cell (ruleAt ws i)) k) where
-    none-before : each k (failing i) ≡ []
-    none-before = on (failing i) k 0 (omega arith) (none _) (λ j _ l. rw (first .before j l))
+  pub scanned-none : {i a b : ℕ} → Stretch L (ruleAt ws i .place) a b → Scanned i a b a
+  scanned-none w = record {
+    stretch = w;
+    from = le-refl _;
+    up-to = w .order;
+    held = λ j l p. absurd (omega (arith, w .only j (omega (arith, w .order, w .last)) p .0));
+  }
 
-    pub instants-pass : L ≤ k → rule-failing i ≡ []
-    instants-pass h = done (failing i) L k (omega (arith, first .bound)) none-before
+  module _ {i a b k : ℕ} (s : Scanned i a b k) where
+    -- Where the code's test of the rule says that it holds, or that it fails.
+    module _ (l : k < b) {ρ : Rule} (r : ρ ≡ ruleAt ws i) {t : Bool} (test : t ≡ not (holds cell ρ k)) where
+      pub scanned-more : t ≡ false → Scanned i a b (k + 1)
+      scanned-more e = record {
+        stretch = s .stretch;
+        from = omega (arith, s .from);
+        up-to = omega arith;
+        held = λ j m p. ⊎-elim (λ (d : j ≡ k). rw (d, ← r) (not-false _ (sym test ∙ e))) (λ (n : j < k). s .held j n p)
+            (eq-or-lt-of-le (le-of-suc-le-suc (rw add-one at m)));
+      }
 
-    pub says-no : i < ruleCount ws → each i rule-failing ≡ [] → k < L → verdict ws L cell ≡ no i k
-    unfolding verdict failures firstFailure
-    says-no m rules l = found rule-failing (ruleCount ws) i m rules (found (failing i) L k l none-before (rw (first .there l)))
+      pub scanned-found : t ≡ true → i < ruleCount ws → RulesHold i → verdict ws L cell ≡ no i k
+      scanned-found e m before = no-means ws L cell i k .1 (record {
+        rule = m;
+        instant = omega (arith, s .stretch .last);
+        placed-there = s .stretch .within k (s .from) l;
+        fails-there = rw (← r) (not-true _ (sym test ∙ e));
+        rules-before = before;
+        instants-before = s .held;
+      })
 
-  pub says-yes : (i : ℕ) → i ≡ ruleCount ws → each i rule-failing ≡ [] → verdict ws L cell ≡ yes
-  unfolding verdict failures firstFailure
-  says-yes i e rules = rw (done rule-failing (ruleCount ws) i e rules)
+    pub scanned-done : b ≤ k → RulesHold i → RulesHold (i + 1)
+    scanned-done d before q j l m p =
+        ⊎-elim (λ (e : q ≡ i). rw e (s .held j (omega (arith, s .stretch .only j m (rw e at p) .1)) (rw e at p)))
+        (λ (n : q < i). before q j n m p) (eq-or-lt-of-le (le-of-suc-le-suc (rw add-one at l)))

@@ -30,17 +30,18 @@ in-row W k L h l = omega (arith, rw mul-suc at (mul-le-mul-left W h))
 
 -- ---- forms
 -- What looking up a literal asks, of each literal of a rule.
-pub may-look : (ρ : Rule) {W L : ℕ} {cells : List ℕ} {k : ℕ} → Lookable ρ W L cells × (k < L)
+pub may-look : (ρ : Rule) {W L : ℕ} {cells : List ℕ} {k : ℕ} → Lookable ρ W L cells k
     → let Look : ℕ → Type 0 = λ w. (symbolOf w < 2 + W) × (k < L) × (length cells ≡ W * L) in
     Look (ρ .body1) × Look (ρ .body2) × Look (ρ .head1) × Look (ρ .head2) × Look (ρ .head3)
 unfolding badRule badLiteral
-may-look ρ (f, l) =
+may-look ρ f =
     let e = simp tests at (f .form) in
+    let l = f .instant in
     let s = f .size in
     ((e .0 .0 .0 .0 .1 .0, l, s), (e .0 .0 .0 .1 .0, l, s), (e .0 .0 .1 .0, l, s), (e .0 .1 .0, l, s), (e .1 .0, l, s))
 
 -- ---- failing, by the values as the code made them
-module _ (ρ : Rule) (k : ℕ) {W L : ℕ} {cells : List ℕ} (f : Lookable ρ W L cells) where
+module _ (ρ : Rule) {W L : ℕ} {cells : List ℕ} {k : ℕ} (f : Lookable ρ W L cells k) where
   abbrev value : ℕ → ℕ
   value w = literal (cellOf W cells) w k
 

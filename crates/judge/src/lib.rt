@@ -5,13 +5,12 @@ mod rule;
 
 ghost use mathlib.Core.Path.{_≡_};
 ghost use mathlib.Core.Bool.{not};
-ghost use Prim.Native.Nat.{_<_};
 ghost use Rattle.meaning.specs.Run.{cellOf};
 ghost use Rattle.meaning.specs.Rule.{holds};
-ghost use Rattle.meaning.specs.Judge.{verdict, failsAt};
+ghost use Rattle.meaning.specs.Judge.{verdict};
 ghost use Rattle.meaning.specs.Refusal.{firstOf, judgeGrounds};
 ghost use Rattle.meaning.specs.Service.{told, judgeAnswer};
-ghost use Rattle.judge.specs.Filled.{Filled, Lookable, FirstWhere, Gives, six};
+ghost use Rattle.judge.specs.Filled.{Filled, Lookable, Gives, six};
 use crate::rule::Rule;
 use rules::RULE_SIZE;
 
@@ -57,52 +56,46 @@ fn first_refusal(rules: &[u16], width: u64, instants: u64, cells: &[u8]) -> u8
     trace::cells_refusal(cells)
 }
 
-// Rules in order, up to the first that fails.
+// Rules in order, instants in order, up to the first that fails.
 fn first_failure(rules: &[u16], width: usize, l: usize, cells: &[u8]) -> Judged
     requires { ⌜ Filled (now rules) width l (now cells) ⌝ }
     ensures { λ v. ⌜ Gives (v .refusal) (v .holds) (v .rule) (v .instant) (told (verdict (now (rules .entry)) l (cellOf width (now (cells .entry))))) ⌝ }
 {
     let n = rules.len() / RULE_SIZE;
     let mut i: usize = 0;
-    while i < n {
-        let k = first_instant(rule::rule_at(rules, i), width, l, cells);
-        if k < l {
-            return Judged {
-                refusal: refusals::ACCEPTED,
-                holds: 0,
-                rule: i as u64,
-                instant: k as u64,
-            };
+    let mut k: usize = 0;
+    'rules: while i < n {
+        let rule = rule::rule_at(rules, i);
+        let end = literal::end_of(l, rule.place);
+        k = literal::start_of(l, rule.place);
+        while k < end {
+            if fails_at(rule, width, l, cells, k) {
+                break 'rules;
+            }
+            k += 1;
         }
         i += 1;
     }
-    Judged {
-        refusal: refusals::ACCEPTED,
-        holds: 1,
-        rule: 0,
-        instant: 0,
-    }
-}
-
-// The first instant at which a rule fails; l if there is none.
-fn first_instant(rule: Rule, width: usize, l: usize, cells: &[u8]) -> usize
-    requires { ⌜ Lookable (six (rule .place) (rule .body1) (rule .body2) (rule .head1) (rule .head2) (rule .head3)) width l (now cells) ⌝ }
-    ensures { λ k. ⌜ FirstWhere l (failsAt l (cellOf width (now (cells .entry))) (six (rule .place) (rule .body1) (rule .body2) (rule .head1) (rule .head2) (rule .head3))) k ⌝ }
-{
-    let end = literal::end_of(l, rule.place);
-    let mut k = literal::start_of(l, rule.place);
-    while k < end {
-        if fails_at(rule, width, l, cells, k) {
-            return k;
+    if i < n {
+        Judged {
+            refusal: refusals::ACCEPTED,
+            holds: 0,
+            rule: i as u64,
+            instant: k as u64,
         }
-        k += 1;
+    } else {
+        Judged {
+            refusal: refusals::ACCEPTED,
+            holds: 1,
+            rule: 0,
+            instant: 0,
+        }
     }
-    l
 }
 
 // Whether a rule fails at an instant k of its place: its body is worth more than its head. A word is looked up where it may decide.
 fn fails_at(rule: Rule, width: usize, l: usize, cells: &[u8], k: usize) -> bool
-    requires { ⌜ Lookable (six (rule .place) (rule .body1) (rule .body2) (rule .head1) (rule .head2) (rule .head3)) width l (now cells) × (k < l) ⌝ }
+    requires { ⌜ Lookable (six (rule .place) (rule .body1) (rule .body2) (rule .head1) (rule .head2) (rule .head3)) width l (now cells) k ⌝ }
     ensures { λ b. ⌜ b ≡ not (holds (cellOf width (now (cells .entry))) (six (rule .place) (rule .body1) (rule .body2) (rule .head1) (rule .head2) (rule .head3)) k) ⌝ }
 {
     let u = literal::literal_at(rule.body1, width, l, cells, k);

@@ -1,56 +1,79 @@
--- `first_failure` meets its contract: before rule i no rule fails.
+-- `first_failure` meets its contract: each rule before i holds, and rule i at each instant before k.
 use Prim.Native.Nat.{_-_, _≤_}
 use mathlib.Core.Path.{_≡_, refl}
-use mathlib.Core.List.{[]}
+use mathlib.Core.Logic.{⊎-elim}
 use native.Mathlib.Omega.{arith}
 use borrow.Author.Needs.{needs}
-use denote.Ref.{now}
-use Rattle.meaning.specs.Run.{each, cellOf}
-use Rattle.meaning.specs.Rule.{ruleAt}
-use Rattle.meaning.specs.Judge.{failsAt}
+use Rattle.meaning.specs.Run.{cellOf}
 use Rattle.meaning.specs.Service.{told}
-use Rattle.judge.specs.Filled.{FirstWhere}
-use Rattle.judge.proofs.Scanning.{rule-failing, none, more, instants-pass, says-no, says-yes}
+use Rattle.meaning.proofs.Judging.{yes-means}
+use Rattle.judge.proofs.PlaceStretch.{rule-stretch}
+use Rattle.judge.proofs.Scanning.{RulesHold, Scanned, scanned-none, scanned-more, scanned-found, scanned-done}
 use Rattle.judge.proofs.first_failure.Statement.{statement}
 use Rattle.judge.proofs.first_failure.Tie as tie
 
 abbrev Inv-loop : tie.InvT-loop
-Inv-loop rules width l cells n i₀ i = (i ≤ n) × (each i (rule-failing rules l (cellOf width cells)) ≡ [])
+Inv-loop rules width l cells n i k₀ rule end k = Scanned rules l (cellOf width cells) i k₀ end k
 
 abbrev μ-loop : tie.MeasureT-loop
-μ-loop rules width l cells n i₀ i = n - i
+μ-loop rules width l cells n i k₀ rule end k = end - k
 
-first-instant-requires : tie.Need-first-instant-requires Inv-loop μ-loop
-first-instant-requires c κs =
-    let f = c .before .before .before .before .before .pre in
-    record { form = rw (c .rule-at .ensures) (f .forms _ (omega arith)); size = f .size; some = f .some; low = f .low }
+abbrev Inv-rules : tie.InvT-rules
+Inv-rules rules width l cells n i₀ k₀ i k = (i ≤ n) × RulesHold rules l (cellOf width cells) i
 
--- What was found of rule i.
-found : (c : tie.After-first-instant Inv-loop μ-loop)
-    → let loop = c .before .before .before in
-    let a = loop .before .before .before .args in
-    FirstWhere (a .l) (failsAt (a .l) (cellOf (a .width) (now (a .cells))) (ruleAt (now (a .rules)) (loop .loop .i))) (c .first-instant .result)
-found c = rw (c .before .rule-at .ensures) at (c .first-instant .ensures)
+abbrev μ-rules : tie.MeasureT-rules
+μ-rules rules width l cells n i₀ k₀ i k = n - i
 
-returns : tie.Need-returns Inv-loop μ-loop
+loop-holds : tie.Need-loop-holds Inv-loop μ-loop Inv-rules μ-rules
+loop-holds c =
+    let r = c .before .before in
+    scanned-none _ _ _ (rule-stretch _ (r .before .before .before .before .before .pre) (omega arith) (r .rule-at .ensures) (c .start-of .ensures)
+    (c .before .end-of .ensures))
+
+fails-at-requires : tie.Need-fails-at-requires Inv-loop μ-loop Inv-rules μ-rules
+fails-at-requires c κs =
+    let r = c .before .before .before .before in
+    let f = r .before .before .before .before .before .pre in
+    record {
+      form = rw (r .rule-at .ensures) (f .forms _ (omega arith));
+      size = f .size;
+      low = f .low;
+      instant = omega (arith, c .before .loop .inv .stretch .last);
+    }
+
+loop-again : tie.Need-loop-again Inv-loop μ-loop Inv-rules μ-rules
+loop-again c =
+    let turn = c .before .before .before in
+    scanned-more _ _ _ (turn .loop .inv) (omega arith) (turn .before .before .before .rule-at .ensures) (c .before .fails-at .ensures) (c .if1 .left)
+
+rules-again : tie.Need-rules-again Inv-loop μ-loop Inv-rules μ-rules
+rules-again c =
+    let rules = c .before .before .before .before .before .before in
+    (omega arith, scanned-done _ _ _ (c .before .loop .inv) (omega arith) (rules .rules .inv .1))
+
+returns : tie.Need-returns Inv-loop μ-loop Inv-rules μ-rules
 unfolding told
 returns c =
-    let loop = c .before .before .before .before in
-    rw (says-no _ _ _ _ (found (c .before)) (omega arith) (loop .loop .inv .1) (c .if1 .taken))
-    record { refused = refl; held = refl; failing = refl; failed = refl }
+    ⊎-elim
+    (λ w. absurd (omega (arith, w .0 .left, c .if2 .taken)))
+    (λ w. rw (scanned-found _ _ _ (w .4 .inv) (w .5 .taken) (w .1 .ensures) (w .6 .ensures) (w .7 .taken) (omega arith)
+    (c .before .before .rules .inv .1))
+    record { refused = refl; held = refl; failing = refl; failed = w .8 })
+    (c .before .rules-test .came)
 
-returns-2 : tie.Need-returns-2 Inv-loop μ-loop
+returns-2 : tie.Need-returns-2 Inv-loop μ-loop Inv-rules μ-rules
 unfolding told
 returns-2 c =
-    rw (says-yes _ _ _ _ (omega arith) (c .before .loop .inv .1))
+    rw (yes-means _ _ _ .1 (λ q j l m. c .before .before .rules .inv .1 q j (omega arith) m))
     record { refused = refl; held = refl; failing = refl; failed = refl }
 
 pub first-failure-spec : {M : Type 1} → statement M
 first-failure-spec =
     tie.close
     (tie.spec
-    Inv-loop μ-loop
-    (λ c. (search needs, none _))
-    (λ c κs. search needs) first-instant-requires returns (λ c. search needs) (λ c. search needs)
-    (λ c. (omega arith, more _ _ (c .before .before .before .before .loop .inv .1) (instants-pass _ _ _ _ (found (c .before)) (c .if1 .left))))
-    returns-2)
+    Inv-loop μ-loop Inv-rules μ-rules
+    (λ c. (search needs, λ q j l. absurd (omega arith)))
+    (λ c κs. search needs) (λ c κs. search needs)
+    (λ c κs. c .before .before .before .before .before .before .pre .some)
+    loop-holds fails-at-requires (λ c. search needs) (λ c. search needs) loop-again
+    (λ c. search needs) (λ c. search needs) rules-again returns returns-2)
