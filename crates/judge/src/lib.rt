@@ -9,7 +9,7 @@ ghost use Rattle.meaning.specs.Run.{cellOf};
 ghost use Rattle.meaning.specs.Rule.{holds};
 ghost use Rattle.meaning.specs.Judge.{verdict};
 ghost use Rattle.meaning.specs.Refusal.{firstOf, judgeGrounds};
-ghost use Rattle.meaning.specs.Service.{told, judgeAnswer};
+ghost use Rattle.meaning.specs.Service.{judgment, judgeAnswer};
 ghost use Rattle.judge.specs.Filled.{Filled, Lookable, Gives, six};
 use crate::rule::Rule;
 use rules::RULE_SIZE;
@@ -59,7 +59,7 @@ fn first_refusal(rules: &[u16], width: u64, instants: u64, cells: &[u8]) -> u8
 // Rules in order, instants in order, up to the first that fails.
 fn first_failure(rules: &[u16], width: usize, l: usize, cells: &[u8]) -> Judged
     requires { ⌜ Filled (now rules) width l (now cells) ⌝ }
-    ensures { λ v. ⌜ Gives (v .refusal) (v .holds) (v .rule) (v .instant) (told (verdict (now (rules .entry)) l (cellOf width (now (cells .entry))))) ⌝ }
+    ensures { λ v. ⌜ Gives (v .refusal) (v .holds) (v .rule) (v .instant) (judgment (verdict (now (rules .entry)) l (cellOf width (now (cells .entry))))) ⌝ }
 {
     let n = rules.len() / RULE_SIZE;
     let mut i: usize = 0;

@@ -1,5 +1,5 @@
--- `stars::stars_refusal` meets its contract: before record r, no star's ground applies, and the array has what all paths
--- may do.
+-- `stars::stars_refusal` meets its contract: before record r, no star's ground applies, and the array has the moves of all
+-- paths.
 use Prim.Native.Nat.{_-_, _≤_}
 use mathlib.Core.List.{[], _∷_}
 use native.Mathlib.Omega.{arith}
@@ -13,10 +13,10 @@ use Rattle.paths.proofs.stars.stars_refusal.Statement.{statement}
 use Rattle.paths.proofs.stars.stars_refusal.Tie as tie
 
 abbrev Inv-loop : tie.InvT-loop
-Inv-loop s n ways₀ r₀ ways r = (r ≤ n) × Clear (each r (λ q. ground12 s q ∷ ground11 s q ∷ [])) × Known s r ways
+Inv-loop s n moves₀ r₀ moves r = (r ≤ n) × Clear (each r (λ q. ground12 s q ∷ ground11 s q ∷ [])) × Known s r moves
 
 abbrev μ-loop : tie.MeasureT-loop
-μ-loop s n ways₀ r₀ ways r = n - r
+μ-loop s n moves₀ r₀ moves r = n - r
 
 returns : tie.Need-returns Inv-loop μ-loop
 unfolding starGrounds
@@ -31,7 +31,7 @@ loop-again c =
     let at = x .before .before .before in (
       omega arith,
       scan-more _ _ (at .loop .inv .1) (grounds-clear _ _ (x .star-refusal .ensures) (c .before .before .if1 .left)),
-      known-more (omega (arith, at .before .record-count .ensures)) (at .loop .inv .2) (c .ways-of .ensures),
+      known-more (omega (arith, at .before .record-count .ensures)) (at .loop .inv .2) (c .moves-of .ensures),
     )
 
 returns-2 : tie.Need-returns-2 Inv-loop μ-loop
