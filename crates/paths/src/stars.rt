@@ -18,7 +18,7 @@ const AHEAD: u8 = 1;
 const BACK: u8 = 2;
 
 // A path that turns has both.
-const TURNS: u8 = 3;
+const TURNS: u8 = AHEAD | BACK;
 
 // Whether path p may stand still.
 fn may_stand(records: &[u8], p: usize) -> bool

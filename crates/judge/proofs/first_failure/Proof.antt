@@ -5,7 +5,7 @@ use mathlib.Core.Logic.{⊎-elim}
 use native.Mathlib.Omega.{arith}
 use borrow.Author.Needs.{needs}
 use Rattle.meaning.specs.Run.{cellOf}
-use Rattle.meaning.specs.Service.{told}
+use Rattle.meaning.specs.Service.{judgment}
 use Rattle.meaning.proofs.Judging.{yes-means}
 use Rattle.judge.proofs.PlaceStretch.{rule-stretch}
 use Rattle.judge.proofs.Scanning.{RulesHold, Scanned, scanned-none, scanned-more, scanned-found, scanned-done}
@@ -52,7 +52,7 @@ rules-again c =
     (omega arith, scanned-done _ _ _ (c .before .loop .inv) (omega arith) (rules .rules .inv .1))
 
 returns : tie.Need-returns Inv-loop μ-loop Inv-rules μ-rules
-unfolding told
+unfolding judgment
 returns c =
     ⊎-elim
     (λ w. absurd (omega (arith, w .0 .left, c .if2 .taken)))
@@ -62,7 +62,7 @@ returns c =
     (c .before .rules-test .came)
 
 returns-2 : tie.Need-returns-2 Inv-loop μ-loop Inv-rules μ-rules
-unfolding told
+unfolding judgment
 returns-2 c =
     rw (yes-means _ _ _ .1 (λ q j l m. c .before .before .rules .inv .1 q j (omega arith) m))
     record { refused = refl; held = refl; failing = refl; failed = refl }
