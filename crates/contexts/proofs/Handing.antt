@@ -8,9 +8,9 @@ use mathlib.Core.Logic.{_⊎_, inl, inr}
 use native.Mathlib.Omega.{arith}
 use lib.ListN.{length, getD, set, replicate, length-set, List·getD-eq-default}
 use lib.Seq.{ext-getD, getD-set-same, getD-set-other}
-use Rattle.meaning.specs.Record.{mostRecords, count, kindByte, kindAt, kindOf, kinds, fieldA, fieldB, formula, path, sortOf}
+use Rattle.meaning.specs.Record.{core, mostRecords, count, kindByte, kindAt, kindOf, kinds, fieldA, fieldB, formula, path, sortOf}
 use Rattle.meaning.specs.Record.{recordSize, Use, unused, atomNumber, child, useA, useB, parent, uses, columnsOf}
-use Rattle.meaning.specs.Tree.{modalNumber}
+use Rattle.meaning.specs.Record.{numberOf, modal}
 use Rattle.meaning.specs.Translation.{handed, context}
 use Rattle.meaning.specs.WellFormed.{WellFormed}
 use Rattle.meaning.proofs.Bounds.{le-or-lt}
@@ -26,8 +26,8 @@ use Rattle.paths.specs.Asking.{Formed}
 use Rattle.paths.proofs.Moving.{first-small, second-small}
 use Rattle.contexts.specs.Contexts.{packed, entryBy, contextsOf, Handed}
 
-mode-again : (n : ℕ) → 3 ≤ n → n < 5 → modalNumber (modeOf n) ≡ n
-unfolding modalNumber modeOf
+mode-again : (n : ℕ) → 3 ≤ n → n < 5 → numberOf (modal (modeOf n)) ≡ n
+unfolding numberOf modeOf
 mode-again n h l = elim (either-of 3 n h l) [ inl e ↦ rw e | inr e ↦ rw e ]
 
 zeros-at : (n i : ℕ) → _≡_ {A = ℕ} (getD (replicate n 0) i 0) 0
@@ -116,7 +116,7 @@ module _ {s : List ℕ} {A : ℕ} (w : WellFormed core s A) where
 
     -- ---- by the kind
     -- The mode of its own context.
-    own-mode : sortOf (kindAt s q) ≡ path → getD contexts q 0 / 256 ≡ modalNumber (context s q .mode)
+    own-mode : sortOf (kindAt s q) ≡ path → getD contexts q 0 / 256 ≡ numberOf (modal (context s q .mode))
     own-mode e = omega (arith, own e, continuation-record w q (path-before w q l e), w .few)
 
     pub modal-handed : 3 ≤ kindByte s q → kindByte s q < 5 → Handed s q (set contexts (fieldA s q) (256 * kindByte s q + fieldB s q))

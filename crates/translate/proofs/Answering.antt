@@ -9,8 +9,9 @@ use borrow.Author.Tests.{lt-ltb, le-ltb, ltb-false}
 use lib.ListN.{length}
 use Rattle.meaning.specs.Rule.{ruleSize}
 use Rattle.meaning.specs.Translation.{translation}
-use Rattle.meaning.specs.Refusal.{Ground, firstOf, ground10, starredGrounds, translateGrounds}
+use Rattle.meaning.specs.Refusal.{ofFirst, Ground, firstOf, ground10, starredGrounds, translateGrounds}
 use Rattle.meaning.specs.WellFormed.{WellFormed}
+use Rattle.meaning.specs.Record.{core}
 use Rattle.meaning.proofs.Accepted.{starred-numbered, starred-formed, starred-clear}
 use Rattle.meaning.proofs.First.{clear-none, none-clear, clear-append, numbered-append, clear-skip, found-stop}
 

@@ -11,10 +11,10 @@ use borrow.Author.Tests.{leb-true}
 use lib.Dec.{leb}
 use lib.ListN.{length, getD, length-append}
 use Rattle.meaning.specs.Run.{each, written}
-use Rattle.meaning.specs.Record.{Kind, constant, atom, modal, move, test, choice, sequence, star, shorthand, unknown, columnsOf}
+use Rattle.meaning.specs.Record.{core, Kind, constant, atom, modal, move, test, choice, sequence, star, shorthand, unknown, columnsOf}
 use Rattle.meaning.specs.Record.{Mode, diamond, box, formula, path, sortOf, mostRecords, count, kinds, kindOf, kindAt, fieldA, fieldB}
 use Rattle.meaning.specs.Rule.{Rule, rule, ruleSize, words}
-use Rattle.meaning.specs.Tree.{modalNumber}
+use Rattle.meaning.specs.Record.{numberOf, modal}
 use Rattle.meaning.specs.Translation.{label, context, rulesOf, rulesAt, asserted, translation, ruleNumber}
 use Rattle.meaning.specs.WellFormed.{WellFormed}
 use Rattle.meaning.proofs.Bounds.{le-or-lt}
@@ -45,7 +45,7 @@ formula-same (shorthand σ) m n x a b c d i e = refl
 formula-same unknown m n x a b c d i e = refl
 
 mode-again : (m : Mode) → modeOf (numberOf (modal m)) ≡ m
-unfolding modeOf modalNumber
+unfolding modeOf numberOf
 mode-again diamond = refl
 mode-again box = refl
 
@@ -66,7 +66,7 @@ module _ {s : List ℕ} {A : ℕ} (w : WellFormed core s A) {r : ℕ} (l : r < c
 
   -- What a path's entry holds.
   entry-of : sortOf (kindAt s r) ≡ path
-      → (entry / 256 ≡ modalNumber (context s r .mode)) × (entry % 256 ≡ context s r .continuation)
+      → (entry / 256 ≡ numberOf (modal (context s r .mode))) × (entry % 256 ≡ context s r .continuation)
   unfolding contextsOf entryBy
   entry-of e =
       let is : entry ≡ packed (context s r) = getD-tabulate mostRecords _ r (omega (arith, w .few)) ∙ rw e in

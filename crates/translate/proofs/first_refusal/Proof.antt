@@ -5,7 +5,7 @@ use mathlib.Core.Bool.{false}
 use native.Mathlib.Omega.{arith}
 use borrow.Author.Needs.{needs}
 use lib.ListN.{length}
-use Rattle.meaning.specs.Record.{count}
+use Rattle.meaning.specs.Record.{core, count}
 use Rattle.meaning.specs.Translation.{translation}
 use Rattle.meaning.specs.Refusal.{firstOf, starredGrounds}
 use Rattle.meaning.specs.WellFormed.{WellFormed}

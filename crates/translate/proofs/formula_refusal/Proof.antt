@@ -5,6 +5,7 @@ use borrow.Author.Needs.{needs}
 use Rattle.meaning.specs.Refusal.{checkGrounds, starGrounds}
 use Rattle.meaning.specs.Service.{checkAnswer}
 use Rattle.meaning.specs.WellFormed.{WellFormed}
+use Rattle.meaning.specs.Record.{core}
 use Rattle.meaning.proofs.First.{clear-skip, found-stop}
 use Rattle.meaning.proofs.Accepted.{check-accepts, clear-well-formed}
 use Rattle.translate.proofs.formula_refusal.Statement.{statement}
