@@ -8,7 +8,7 @@ use mathlib.Core.Logic.{_⊎_, inl, inr}
 use native.Mathlib.Omega.{arith}
 use borrow.Author.Tests.{ne-eqb}
 use lib.Dec.{eqb}
-use Rattle.meaning.specs.Record.{Language, kindAt, zeroByte, fieldA, fieldB, useA, useB, known}
+use Rattle.meaning.specs.Record.{Language, kindAt, zeroByte, known}
 use Rattle.meaning.specs.Refusal.{ofFirst, firstOf, recordGrounds, ground2, ground3, ground4, ground5, ground6}
 use Rattle.shapes.specs.Uses.{useOf}
 use Rattle.checks.specs.Places.{fieldGrounds, fieldsGrounds, sooner}

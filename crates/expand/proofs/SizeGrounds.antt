@@ -2,7 +2,6 @@
 -- a refusal of the records is the answer, and where there is none they are a tree and its size decides.
 use Prim.Native.Nat.{ℕ, pred, _*_, _<_, _≤_, min}
 use mathlib.Core.Path.{_≡_, sym, ap, _∙_}
-use mathlib.Core.Bool.{true}
 use mathlib.Core.Logic.{⊎-elim}
 use mathlib.Core.List.{List}
 use native.Mathlib.Nat.{zero-add}

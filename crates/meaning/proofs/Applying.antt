@@ -1,16 +1,16 @@
 -- Where a ground applies: its test holds exactly where the reason's plain fact is so.
-use Prim.Native.Nat.{ℕ, zero, suc, pred, _+_, _*_, _%_, _<_, _≤_}
+use Prim.Native.Nat.{ℕ, zero, suc, pred, _*_, _%_, _<_, _≤_}
 use mathlib.Core.Path.{_≡_, refl, sym, _∙_}
 use mathlib.Core.Bool.{Bool, true, false, not, _&&_, _||_, true≢false}
 use mathlib.Core.Logic.{_⊎_, inl, inr, _↔_, _≢_, Iff·trans, ⊎-map}
 use mathlib.Core.List.{List}
 use native.Mathlib.Omega.{arith}
-use lib.ListN.{length, getD}
+use lib.ListN.{length}
 use lib.Dec.{leb, ltb, eqb}
-use borrow.Author.Tests.{ltb-true, lt-ltb, leb-true, le-leb, eqb-true, eq-eqb, eqb-false, ne-eqb, not-true}
-use Rattle.meaning.specs.Record.{Language, known, recordSize, mostRecords, count, zeroByte, fieldA, fieldB, kindAt}
+use borrow.Author.Tests.{ltb-true, lt-ltb, leb-true, le-leb, not-true}
+use Rattle.meaning.specs.Record.{Language, known, recordSize, mostRecords, count, zeroByte, fieldA, kindAt}
 use Rattle.meaning.specs.Record.{Kind, constant, atom, modal, move, test, choice, sequence, star, shorthand, unknown}
-use Rattle.meaning.specs.Record.{Sort, formula, path, sortOf, Use, unused, atomNumber, child, useA, useB, places, ahead, back}
+use Rattle.meaning.specs.Record.{Sort, formula, path, sortOf, Use, unused, atomNumber, child, places, ahead, back}
 use Rattle.meaning.specs.Formula.{mayStand, goes}
 use Rattle.meaning.specs.Tree.{pathAt}
 use Rattle.meaning.specs.Rule.{ruleSize, ruleAt, ruleWord}

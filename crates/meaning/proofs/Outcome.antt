@@ -1,22 +1,21 @@
 -- What valuing leaves and the judge answers. A row of the table stands where its number says, and its values are the one reading's; the
 -- judge's answer is its verdict, whose meaning is known.
-use Prim.Native.Nat.{ℕ, suc, pred, _+_, _*_, _%_, _<_, _≤_, zero-le}
+use Prim.Native.Nat.{ℕ, pred, _+_, _*_, _%_, _<_, _≤_, zero-le}
 use mathlib.Core.Path.{_≡_, refl, sym, _∙_}
-use mathlib.Core.Bool.{true, false, true≢false}
-use mathlib.Core.Logic.{inl, inr, _↔_, _≢_, Iff·trans}
-use mathlib.Core.List.{List, [], _∷_}
+use mathlib.Core.Bool.{true≢false}
+use mathlib.Core.Logic.{inl, inr, _≢_, Iff·trans}
+use mathlib.Core.List.{List, []}
 use native.Mathlib.Decide.{ℕ-discrete}
 use native.Mathlib.Nat.{mul-comm, mul-le-mul-left}
 use native.Mathlib.Omega.{arith}
 use lib.ListN.{length, getD, List·getD-append, List·getD-eq-default}
 use borrow.Author.Tests.{eq-eqb, ne-eqb}
 use Rattle.meaning.specs.Run.{each, tabulate, written, cellOf}
-use Rattle.meaning.specs.Record.{recordSize, count, kindAt, sortOf, formula, path}
+use Rattle.meaning.specs.Record.{recordSize, count, kindAt, sortOf, formula}
 use Rattle.meaning.specs.Tree.{formAt}
 use Rattle.meaning.specs.Three.{negation}
-use Rattle.meaning.specs.Rule.{Rule, placed, bodyValue, headValue}
-use Rattle.meaning.specs.Judge.{Verdict, verdict, AllHold, FirstFailure}
-use Rattle.meaning.specs.Refusal.{firstOf, valueGrounds, judgeGrounds}
+use Rattle.meaning.specs.Rule.{placed, bodyValue, headValue}
+use Rattle.meaning.specs.Judge.{Verdict, verdict}
 use Rattle.meaning.specs.Service.{judgment, rowBy, rowOf, table, valueAnswer, valueAfter, judgeAnswer}
 use Rattle.meaning.specs.Reason.{Reason, wrongLength, wrongSize, lastIsPath, wrongCell, ValueRefused}
 use Rattle.meaning.specs.Outcome.{RowsAre, VerdictIs, RulesRead}
@@ -29,7 +28,7 @@ use Rattle.meaning.proofs.Holding.{rule-holds}
 use Rattle.meaning.proofs.Literals.{literal-false, literal-true, literal-column, literal-previous, literal-negated}
 use Rattle.meaning.proofs.Judging.{yes-means, no-means}
 use Rattle.meaning.proofs.Bounds.{le-or-lt}
-use Rattle.meaning.proofs.Answering.{table-length, value-answered, judge-refusal}
+use Rattle.meaning.proofs.Answering.{value-answered, judge-refusal}
 
 -- ---- the judge
 module _ (ws : List ℕ) (W L : ℕ) (cells : List ℕ) where

@@ -1,9 +1,9 @@
 -- The values are a reading, as each is the greatest or the least that the specification names, and the star that over any number of passes.
 -- Two readings agree: by induction on formula and path, since what is the greatest of the same numbers is the same.
-use Prim.Native.Nat.{ℕ, zero, suc, _+_, _<_, _≤_, min, max}
+use Prim.Native.Nat.{ℕ, zero, suc, _+_, _<_, _≤_}
 use mathlib.Core.Path.{_≡_, refl, sym, _∙_}
 use mathlib.Core.Bool.{true, false}
-use mathlib.Core.Logic.{inl, inr, _≢_}
+use mathlib.Core.Logic.{inl, inr}
 use native.Mathlib.Decide.{ℕ-discrete}
 use native.Mathlib.Nat.{le-antisymm}
 use native.Mathlib.Omega.{arith}
@@ -11,7 +11,7 @@ use borrow.Author.Tests.{eq-eqb, ne-eqb}
 use Rattle.meaning.specs.Three.{greatest, least}
 use Rattle.meaning.specs.Record.{diamond, box, ahead, back}
 use Rattle.meaning.specs.Formula.{Form, Path, constant, atom, modal, move, test, choice, sequence, star}
-use Rattle.meaning.specs.Value.{Row, Square, moveSquare, testSquare, choiceSquare, sequenceSquare, passes, starSquare, diamondRow, boxRow, modalRow, valueOf, squareOf}
+use Rattle.meaning.specs.Value.{Row, Square, moveSquare, testSquare, choiceSquare, sequenceSquare, passes, diamondRow, boxRow, modalRow, valueOf, squareOf}
 use Rattle.meaning.specs.Reading.{Greatest, Least, Reading}
 use Rattle.meaning.proofs.Bounds.{le-or-lt, greatest-member, greatest-attained, least-member}
 use Rattle.meaning.proofs.Implication.{imp-bound}

@@ -1,5 +1,5 @@
 -- Each service's grounds stand for its reasons: those of one record in turn, then of each record, then stage after stage.
-use Prim.Native.Nat.{ℕ, suc, pred, _+_, _*_, _<_}
+use Prim.Native.Nat.{ℕ, suc, pred, _<_}
 use mathlib.Core.Path.{_≡_, refl}
 use mathlib.Core.Bool.{true}
 use mathlib.Core.Logic.{inl, inr, _↔_, _≢_}
@@ -9,11 +9,9 @@ use native.Mathlib.Omega.{arith}
 use lib.ListN.{length}
 use Rattle.meaning.specs.Run.{each}
 use Rattle.meaning.specs.Record.{Language, core, full, count, places}
-use Rattle.meaning.specs.Rule.{ruleSize}
-use Rattle.meaning.specs.Translation.{translation}
 use Rattle.meaning.specs.Judge.{ruleCount}
-use Rattle.meaning.specs.Refusal.{Ground, mostAtoms, mostColumns, ground1, ground2, ground3, ground4, ground5, ground6, ground6-last, ground7, ground8, ground8-cells}
-use Rattle.meaning.specs.Refusal.{grounds9, ground10, ground11, ground12, ground13, ground13-length, ground14, wholeForm, recordGrounds, treeGrounds, starGrounds}
+use Rattle.meaning.specs.Refusal.{Ground, mostAtoms, ground1, ground2, ground3, ground4, ground5, ground6, ground6-last, ground7, ground8, ground8-cells}
+use Rattle.meaning.specs.Refusal.{grounds9, ground10, ground11, ground12, ground13, ground13-length, ground14, recordGrounds, treeGrounds, starGrounds}
 use Rattle.meaning.specs.Refusal.{checkGrounds, expandGrounds, valueGrounds, translateGrounds, judgeGrounds}
 use Rattle.meaning.proofs.RuleCount.{translation-counted}
 use Rattle.meaning.specs.Reason.{given, position, positionOf, notOneParent, noRoom, RecordRefused, TreeRefused, FormulaRefused, StarRefused, WrongSize, CellRefused}

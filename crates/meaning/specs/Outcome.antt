@@ -5,7 +5,7 @@
 --   RulesRead ..    of rules: their places, their literals, and when they hold
 use Prim.Native.Nat.{ℕ, suc, pred, _+_, _*_, _≤_, _<_, min, max}
 use mathlib.Core.Path.{_≡_}
-use mathlib.Core.Bool.{true, false}
+use mathlib.Core.Bool.{true}
 use mathlib.Core.Logic.{_↔_, _≢_}
 use mathlib.Core.List.{List}
 use lib.ListN.{length, getD}

@@ -7,7 +7,7 @@
 --   Scanned s r moves record r is one of a formula's, and those before it are known
 use Prim.Native.Nat.{ℕ, _+_, _*_, _<_}
 use mathlib.Core.Path.{_≡_}
-use mathlib.Core.Bool.{Bool, false, cond}
+use mathlib.Core.Bool.{Bool, cond}
 use mathlib.Core.List.{List}
 use lib.ListN.{length, getD}
 use Rattle.meaning.specs.Record.{core, mostRecords, count, kindAt, path, sortOf, ahead, back}

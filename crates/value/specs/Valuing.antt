@@ -10,7 +10,6 @@
 --   PathSquare s L p bytes         over L instants the bytes are the square of path p, on some trace
 use Prim.Native.Nat.{ℕ, _+_, _*_, _<_, _≤_}
 use mathlib.Core.Path.{_≡_}
-use mathlib.Core.Bool.{false}
 use mathlib.Core.List.{List}
 use lib.ListN.{length, getD}
 use Rattle.meaning.specs.Run.{cellOf}

@@ -1,7 +1,7 @@
 -- `size_refusal` meets its contract: its tests are the two grounds.
 use borrow.Author.Needs.{needs}
 use borrow.Author.Tests.{lt-ltb, le-ltb}
-use Rattle.meaning.specs.Refusal.{ofFirst, firstOf, ground10, ground14}
+use Rattle.meaning.specs.Refusal.{ofFirst, ground10, ground14}
 use Rattle.expand.proofs.size_refusal.Statement.{statement}
 use Rattle.expand.proofs.size_refusal.Tie as tie
 

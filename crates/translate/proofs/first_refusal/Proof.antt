@@ -1,7 +1,6 @@
 -- `first_refusal` meets its contract: the formula's grounds come first, and after them the room, for as many rules as
 -- there are.
 use mathlib.Core.Path.{_≡_, sym, _∙_}
-use mathlib.Core.Bool.{false}
 use native.Mathlib.Omega.{arith}
 use borrow.Author.Needs.{needs}
 use lib.ListN.{length}

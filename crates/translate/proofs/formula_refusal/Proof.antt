@@ -1,6 +1,5 @@
 -- `formula_refusal` meets its contract: check's grounds come first, and what passes them is a formula's records.
 use mathlib.Core.Path.{sym, _∙_}
-use mathlib.Core.Bool.{false}
 use borrow.Author.Needs.{needs}
 use Rattle.meaning.specs.Refusal.{checkGrounds, starGrounds}
 use Rattle.meaning.specs.Service.{checkAnswer}

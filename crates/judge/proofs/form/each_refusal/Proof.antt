@@ -5,7 +5,7 @@ use mathlib.Core.List.{[], _∷_}
 use native.Mathlib.Omega.{arith}
 use borrow.Author.Needs.{needs}
 use Rattle.meaning.specs.Run.{each}
-use Rattle.meaning.specs.Refusal.{ofFirst, firstOf, ground13}
+use Rattle.meaning.specs.Refusal.{ofFirst, ground13}
 use Rattle.meaning.proofs.First.{Clear, scan-none, scan-more, scan-found, scan-done}
 use Rattle.judge.proofs.form.each_refusal.Statement.{statement}
 use Rattle.judge.proofs.form.each_refusal.Tie as tie

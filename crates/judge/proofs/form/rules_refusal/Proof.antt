@@ -1,7 +1,7 @@
 -- `form::rules_refusal` meets its contract: the length is right, or its number comes before those of the rules.
 use borrow.Author.Tests.{eq-eqb, ne-eqb, lt-ltb, le-ltb}
 use borrow.Author.Needs.{needs}
-use Rattle.meaning.specs.Refusal.{ofFirst, firstOf, ground13-length}
+use Rattle.meaning.specs.Refusal.{ofFirst, ground13-length}
 use Rattle.judge.proofs.form.rules_refusal.Statement.{statement}
 use Rattle.judge.proofs.form.rules_refusal.Tie as tie
 
