@@ -15,7 +15,7 @@ use Rattle.meaning.specs.Value.{Square, passes, starSquare}
 use Rattle.meaning.proofs.Bounds.{le-or-lt, le-above}
 use Rattle.meaning.proofs.Reach.{only-there, value-there, there-bound, sequence-elim, sequence-intro}
 use Rattle.meaning.proofs.Star.{star-greatest, star-attained, star-unfold}
-use Rattle.closing.specs.Closing.{standing, by}
+use Rattle.closing.specs.Closing.{noPass, by}
 
 -- s is p closed by way of the instants below m.
 pub record Closing (L : ℕ) (p : Square) (m : ℕ) (s : Square) : Type 0 where
@@ -113,22 +113,22 @@ module _ {L m : ℕ} {p s : Square} (l : m < L) (w : Closing L p m s) where
 -- ---- the start and the end
 module _ {L : ℕ} {p : Square} (b : (k j : ℕ) → k < L → j < L → p k j ≤ 2) where
   -- With no pass it is from p up to the star.
-  pub standing-cell : (k j : ℕ) → k < L → j < L → (p k j ≤ standing p k j) × (standing p k j ≤ starSquare L p k j)
-  unfolding standing
-  standing-cell k j h l = go (eqb j k) refl
+  pub no-pass-cell : (k j : ℕ) → k < L → j < L → (p k j ≤ noPass p k j) × (noPass p k j ≤ starSquare L p k j)
+  unfolding noPass
+  no-pass-cell k j h l = go (eqb j k) refl
     where
       go : (t : Bool) → eqb j k ≡ t → (p k j ≤ cond t 2 (p k j)) × (cond t 2 (p k j) ≤ starSquare L p k j)
       go true e = (b k j h l, rw (eqb-true j k e) (star-still L p k h))
       go false e = (le-refl _, star-above L p k j h l (b k j h l))
 
   -- So it is closed by way of no instant.
-  pub closing-none : Closing L p 0 (standing p)
-  unfolding standing
+  pub closing-none : Closing L p 0 (noPass p)
+  unfolding noPass
   closing-none = record {
     still = λ k h. rw (eq-eqb k k refl) (le-refl 2);
-    above = λ k j h l. standing-cell k j h l .0;
+    above = λ k j h l. no-pass-cell k j h l .0;
     through = λ k i j v h l. absurd (omega arith);
-    within = λ k j h l. standing-cell k j h l .1;
+    within = λ k j h l. no-pass-cell k j h l .1;
   }
 
 module _ {L m : ℕ} {p s : Square} (w : Closing L p m s) (b : L ≤ m) where

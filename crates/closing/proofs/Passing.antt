@@ -11,12 +11,12 @@ use lib.ListN.{length, getD}
 use Rattle.meaning.proofs.Bounds.{le-or-lt}
 use Rattle.rows.specs.Cells.{width, area, at, Holds, Rowed}
 use Rattle.rows.proofs.Diagonal.{Diagonal, diagonal-self}
-use Rattle.closing.specs.Closing.{standing, by, Passed, PassedRows}
+use Rattle.closing.specs.Closing.{noPass, by, Passed, PassedRows}
 
 -- With 2 along the diagonal, and all else as it was.
 pub stand-marked : {old s : List ℕ} {l n : ℕ} → l ≤ width → length old ≡ area → n ≡ l → Diagonal 0 (λ i. 2) old s n
-    → Holds l s (standing (at old))
-unfolding standing
+    → Holds l s (noPass (at old))
+unfolding noPass
 stand-marked {old} u size = diagonal-self {base = λ m. getD old m 0} u size (λ m h. refl)
 
 pub passing-none : {mid from : ℕ} {s : List ℕ} → length s ≡ area → PassedRows mid from from s s

@@ -18,14 +18,14 @@ use Rattle.meaning.proofs.Onward.{move-bound}
 use Rattle.meaning.proofs.Reach.{Beside, beside-one, move-beside, sequence-elim}
 use Rattle.meaning.proofs.Star.{star-unfold}
 use Rattle.rows.specs.Cells.{width, area, at, Holds, Rowed}
-use Rattle.closing.specs.Closing.{standing, by, Moving}
-use Rattle.closing.proofs.Closure.{star-through, standing-cell}
+use Rattle.closing.specs.Closing.{noPass, by, Moving}
+use Rattle.closing.proofs.Closure.{star-through, no-pass-cell}
 
 -- ---- the law
 -- No pass has no more than the square with 2 from each instant to itself.
-none-standing : (L : ℕ) (p : Square) (k j : ℕ) → passes L p 0 k j ≤ standing p k j
-unfolding passes standing
-none-standing L p k j = go (eqb j k)
+none-no-pass : (L : ℕ) (p : Square) (k j : ℕ) → passes L p 0 k j ≤ noPass p k j
+unfolding passes noPass
+none-no-pass L p k j = go (eqb j k)
   where
     go : (t : Bool) → cond t 2 0 ≤ cond t 2 (p k j)
     go true = le-refl 2
@@ -37,9 +37,9 @@ module _ (w : Way) {L : ℕ} {p : Square} (m : Moving w L p) where
 
   -- A value of the star is one with no pass, or comes by way of the instant beside.
   star-ways : (k j v : ℕ) → k < L → 0 < v → v ≤ starSquare L p k j
-      → (v ≤ standing p k j) ⊎ ((i : ℕ) × (i < L) × Beside w k i × (v ≤ p k i) × (v ≤ starSquare L p i j))
+      → (v ≤ noPass p k j) ⊎ ((i : ℕ) × (i < L) × Beside w k i × (v ≤ p k i) × (v ≤ starSquare L p i j))
   star-ways k j v h z a = elim (le-or-lt v (passes L p 0 k j)) [
-    | inl b ↦ inl (le-trans b (none-standing L p k j))
+    | inl b ↦ inl (le-trans b (none-no-pass L p k j))
     | inr c ↦
         let (i, l, x, y) = sequence-elim L p (starSquare L p) k j v z (omega (arith, star-unfold L p k j h)) in
         inr (i, l, move-beside w k i (le-trans z (le-trans x (m k i h l))), x, y)
@@ -47,32 +47,32 @@ module _ (w : Way) {L : ℕ} {p : Square} (m : Moving w L p) where
 
   -- Where there is an instant beside.
   pub star-run : (k i j : ℕ) → k < L → i < L → j < L → Beside w k i
-      → starSquare L p k j ≡ max (standing p k j) (min (starSquare L p i j) (standing p k i))
+      → starSquare L p k j ≡ max (noPass p k j) (min (starSquare L p i j) (noPass p k i))
   star-run k i j h g l b =
       le-antisymm
       (le-above (starSquare L p k j) _ (λ v z a. most v (star-ways k j v h z a)))
-      (max-le (standing-cell moving-low k j h l .1)
+      (max-le (no-pass-cell moving-low k j h l .1)
       (le-above _ _ (λ v z a.
-      star-through L p k i j v h z (le-trans (omega arith) (standing-cell moving-low k i h g .1)) (omega arith))))
+      star-through L p k i j v h z (le-trans (omega arith) (no-pass-cell moving-low k i h g .1)) (omega arith))))
     where
-      most : (v : ℕ) → (v ≤ standing p k j) ⊎ ((i : ℕ) × (i < L) × Beside w k i × (v ≤ p k i) × (v ≤ starSquare L p i j))
-          → v ≤ max (standing p k j) (min (starSquare L p i j) (standing p k i))
+      most : (v : ℕ) → (v ≤ noPass p k j) ⊎ ((i : ℕ) × (i < L) × Beside w k i × (v ≤ p k i) × (v ≤ starSquare L p i j))
+          → v ≤ max (noPass p k j) (min (starSquare L p i j) (noPass p k i))
       most v (inl x) = omega arith
       most v (inr (q, ql, d, x, y)) =
           let e = beside-one w k i q b d in
           let x′ : v ≤ p k i = subst (λ q. v ≤ p k q) e x in
           let y′ : v ≤ starSquare L p i j = subst (λ q. v ≤ starSquare L p q j) e y in
-          omega (arith, standing-cell moving-low k i h g .0)
+          omega (arith, no-pass-cell moving-low k i h g .0)
 
   -- Where there is none.
-  pub star-edge : (k j : ℕ) → k < L → j < L → ((i : ℕ) → i < L → Beside w k i → ⊥) → starSquare L p k j ≡ standing p k j
+  pub star-edge : (k j : ℕ) → k < L → j < L → ((i : ℕ) → i < L → Beside w k i → ⊥) → starSquare L p k j ≡ noPass p k j
   star-edge k j h l none =
       le-antisymm
-      (le-above (starSquare L p k j) (standing p k j) (λ v z a. elim (star-ways k j v h z a) [
+      (le-above (starSquare L p k j) (noPass p k j) (λ v z a. elim (star-ways k j v h z a) [
         | inl x ↦ x
         | inr (q, ql, d, _, _) ↦ absurd (none q ql d)
       ]))
-      (standing-cell moving-low k j h l .1)
+      (no-pass-cell moving-low k j h l .1)
 
 -- ---- row by row
 -- The rows that are done are the star's, and the others have no pass.
@@ -80,11 +80,11 @@ pub record Running (w : Way) (L : ℕ) (p : Square) (Done : ℕ → Type 0) (s :
   pub moving : Moving w L p
   pub size : length s ≡ area
   pub done : (k j : ℕ) → k < L → j < L → Done k → at s k j ≡ starSquare L p k j
-  pub left : (k j : ℕ) → k < L → j < L → (Done k → ⊥) → at s k j ≡ standing p k j
+  pub left : (k j : ℕ) → k < L → j < L → (Done k → ⊥) → at s k j ≡ noPass p k j
 
 -- At first that is the edge's.
 pub running-none : (w : Way) {L : ℕ} {p : Square} {Done : ℕ → Type 0} {s : List ℕ} → Moving w L p
-    → Holds L s (standing p) → ((k i : ℕ) → k < L → Done k → i < L → Beside w k i → ⊥) → Running w L p Done s
+    → Holds L s (noPass p) → ((k i : ℕ) → k < L → Done k → i < L → Beside w k i → ⊥) → Running w L p Done s
 running-none w m h none = record {
   moving = m;
   size = h .size;

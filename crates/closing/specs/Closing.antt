@@ -1,5 +1,5 @@
 -- The steps of a star's closure in one square.
---   standing p k j     p, with 2 from each instant to itself
+--   noPass p k j     p, with 2 from each instant to itself
 --   by p mid k j       p, or by way of the instant mid
 --   Passed k u f old new   `new` is the square `old` with row k raised to the smaller of f j and u
 --   PassedRows mid from to old new   `new` is the square `old` with the rows from `from` up to `to` by way of mid too
@@ -14,8 +14,8 @@ use Rattle.meaning.specs.Record.{Way}
 use Rattle.meaning.specs.Value.{Square, moveSquare}
 use Rattle.rows.specs.Cells.{width, area, at, Rowed}
 
-unfoldable pub standing : Square → Square
-standing p k j = cond (eqb j k) 2 (p k j)
+unfoldable pub noPass : Square → Square
+noPass p k j = cond (eqb j k) 2 (p k j)
 
 unfoldable pub by : Square → ℕ → Square
 by p mid k j = max (p k j) (min (p k mid) (p mid j))

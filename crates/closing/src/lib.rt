@@ -6,7 +6,7 @@ ghost use Rattle.meaning.specs.Record.{ahead, back};
 ghost use Rattle.meaning.specs.Refusal.{mostInstants};
 ghost use Rattle.meaning.specs.Value.{starSquare};
 ghost use Rattle.rows.specs.Cells.{width, area, at, Holds};
-ghost use Rattle.closing.specs.Closing.{standing, Passed, PassedRows, Moving};
+ghost use Rattle.closing.specs.Closing.{noPass, Passed, PassedRows, Moving};
 use rows::DIAGONAL;
 use rows::Row;
 use rows::Square;
@@ -54,7 +54,7 @@ pub fn run_back(s: &mut Square, l: usize)
 // No pass: 2 from each instant to itself.
 fn stand(s: &mut Square, l: usize)
     requires { ⌜ (l ≤ mostInstants) × (length (now s) ≡ area) ⌝ }
-    ensures { λ _. ⌜ Holds l (now (s .exit)) (standing (at (now (s .entry)))) ⌝ }
+    ensures { λ _. ⌜ Holds l (now (s .exit)) (noPass (at (now (s .entry)))) ⌝ }
 {
     let mut k: usize = 0;
     while k < l {

@@ -11,7 +11,7 @@ use Rattle.meaning.specs.Record.{numberOf, Kind, kinds, kindOf, argumentsOf, co
 use Rattle.meaning.specs.Shorthand.{expansion}
 use Rattle.meaning.proofs.Fails.{and-holds}
 use Rattle.records.proofs.Ranges.{onward}
-use Rattle.expand.specs.Steps.{partA, byte, formSteps, pathSteps, stepsOf, digits, rowOf, partUse}
+use Rattle.expand.specs.Steps.{partA, byte, formSteps, pathSteps, stepsOf, digits, rowNumber, partUse}
 use Rattle.expand.specs.Expanding.{isChild, isAtom, fits}
 
 -- Every step of the list fits the kind.
@@ -45,7 +45,7 @@ pub record Rest (K : Kind) (rest : ℕ) : Type 0 where
   pub fit : allFit K left ≡ true
 
 -- All of it.
-abbrev pub rest-all : (number : ℕ) {rest : ℕ} → rest ≡ rowOf (kindOf number) → Rest (kindOf number) rest
+abbrev pub rest-all : (number : ℕ) {rest : ℕ} → rest ≡ rowNumber (kindOf number) → Rest (kindOf number) rest
 rest-all number e = record { left = stepsOf (kindOf number); row = e; fit = sym (steps-fit number) }
 
 -- Nothing.

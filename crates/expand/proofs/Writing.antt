@@ -13,7 +13,7 @@ use lib.Seq.{sets}
 use Rattle.meaning.specs.Record.{kindAt, fieldA, fieldB, recordSize, mostRecords}
 use Rattle.meaning.specs.Tree.{treeAt}
 use Rattle.meaning.proofs.Stores.{sets-append}
-use Rattle.expand.specs.Steps.{noChild, byte, rowOf, nextUnder}
+use Rattle.expand.specs.Steps.{noChild, byte, rowNumber, nextUnder}
 use Rattle.expand.specs.Expanding.{Expandable, bytesAt, sizeAt, stepBytes, stepCount, fits, many, Wrote}
 use Rattle.expand.proofs.Stepping.{stepsFrom}
 use Rattle.expand.proofs.Sized.{step-length, stepsSize}
@@ -48,7 +48,7 @@ stops : (n x y : ℕ) → min many (min many (n + x) + y) ≡ min many (n + (x +
 stops n x y = omega arith
 
 module _ {s : List ℕ} {r from : ℕ} {old : List ℕ} where
-  pub going-none : {rest : ℕ} → Expandable s r → from ≤ many → rest ≡ rowOf (kindAt s r) → Going s r from old rest from from old
+  pub going-none : {rest : ℕ} → Expandable s r → from ≤ many → rest ≡ rowNumber (kindAt s r) → Going s r from old rest from from old
   going-none w h e = record {
     steps = rest-all _ e;
     low = h;

@@ -3,7 +3,7 @@
 -- 0 is two, 1 is one, 2 is none. It takes the last one or two trees for them, or begins a tree; in between at most two trees stand by
 -- themselves, and `under` is where the second of two begins.
 --   stepsOf kind            the steps of a record of the kind; a shorthand's are those of its expansion
---   rowOf kind              these as one number: a byte for each, the first one lowest, and a 1 above the last
+--   rowNumber kind              these as one number: a byte for each, the first one lowest, and a 1 above the last
 --   treeFrom sort t n       the records of the tree t, which is of the sort, from number n on
 --   treeSize sort t         how many they are
 --   ownKind, ownA, ownB     the kind and the fields of the one record that a step writes, where that gets the number n
@@ -71,8 +71,8 @@ unfoldable pub digits : List ℕ → ℕ
 digits [] = 1
 digits (d ∷ ds) = d + byte * digits ds
 
-abbrev pub rowOf : Kind → ℕ
-rowOf kind = digits (stepsOf kind)
+abbrev pub rowNumber : Kind → ℕ
+rowNumber kind = digits (stepsOf kind)
 
 -- ---- trees
 unfoldable pub treeFrom : Sort → Tree → ℕ → List ℕ

@@ -3,7 +3,7 @@
 ghost use mathlib.Core.Path.{_≡_};
 ghost use Prim.Native.Nat.{pred, _<_};
 ghost use Rattle.meaning.specs.Record.{count, fieldA, fieldB, kindOf};
-ghost use Rattle.expand.specs.Steps.{rowOf, ownKind, ownA, ownB, partOf, nextUnder};
+ghost use Rattle.expand.specs.Steps.{rowNumber, ownKind, ownA, ownB, partOf, nextUnder};
 use records::kind;
 use records::layout;
 
@@ -27,7 +27,7 @@ pub const DONE: u64 = 1;
 
 // The table of all rows. As an array it would be laid on the stack at every call.
 pub fn row_of(kind: u8) -> u64
-    ensures { λ v. ⌜ v ≡ rowOf (kindOf kind) ⌝ }
+    ensures { λ v. ⌜ v ≡ rowNumber (kindOf kind) ⌝ }
 {
     match kind {
         kind::FALSE => 0x01_20,

@@ -1,7 +1,7 @@
 -- What is made of two paths' squares.
 --   joinOf            a choice or a sequence, by the number of its kind
 --   Low L s           the square s has values
---   Part L kind s     it has values, and those of a move if the kind is a move's
+--   PathPart L kind s     it has values, and those of a move if the kind is a move's
 --   besideOf w L k    the instant to which a move leads from k, or L or more if there is none
 --   turned w          the other way
 --   shiftOf w         the place to which a move after a path brings the first value that it keeps
@@ -21,7 +21,7 @@ joinOf kind L p q = cond (eqb kind 8) (choiceSquare p q) (sequenceSquare L p q)
 abbrev pub Low : ℕ → List ℕ → Type 0
 Low L s = (k j : ℕ) → k < L → j < L → at s k j ≤ 2
 
-pub record Part (L kind : ℕ) (s : List ℕ) : Type 0 where
+pub record PathPart (L kind : ℕ) (s : List ℕ) : Type 0 where
   pub low : Low L s
   pub moves : kind < 7 → (k j : ℕ) → k < L → j < L → at s k j ≡ moveSquare (wayOf kind) k j
 

@@ -8,7 +8,7 @@ ghost use Rattle.meaning.specs.Refusal.{mostInstants};
 ghost use Rattle.meaning.specs.Value.{moveSquare, choiceSquare, sequenceSquare};
 ghost use Rattle.records.specs.Code.{wayOf};
 ghost use Rattle.rows.specs.Cells.{width, area, at, Holds, Raised, Values};
-ghost use Rattle.joining.specs.Joining.{Low, Part, besideOf, joinOf, shiftOf};
+ghost use Rattle.joining.specs.Joining.{Low, PathPart, besideOf, joinOf, shiftOf};
 use records::kind;
 use rows::Row;
 use rows::SIZE;
@@ -17,7 +17,7 @@ use rows::WIDTH;
 
 // The first path's square becomes the choice's or the sequence's; `first` and `next` are the two paths' kinds.
 pub fn join(kind: u8, first: u8, next: u8, s: &mut Square, q: &Square, l: usize)
-    requires { ⌜ (l ≤ mostInstants) × (length (now s) ≡ area) × Part l first (now s) × Part l next (now q) ⌝ }
+    requires { ⌜ (l ≤ mostInstants) × (length (now s) ≡ area) × PathPart l first (now s) × PathPart l next (now q) ⌝ }
     ensures { λ _. ⌜ Holds l (now (s .exit)) (joinOf kind l (at (now (s .entry))) (at (now (q .entry)))) ⌝ }
 {
     if kind == kind::CHOICE {
@@ -38,7 +38,7 @@ fn choose(s: &mut Square, q: &Square)
 {
     let mut i: usize = 0;
     while i < SIZE {
-        s[i] = three::greatest(s[i], q[i]);
+        s[i] = three::greater(s[i], q[i]);
         i += 1;
     }
 }

@@ -20,13 +20,13 @@ module _ (ws : List ℕ) (L : ℕ) (cell : ℕ → ℕ → ℕ) where
   RulesHold i = (q j : ℕ) → q < i → j < L → HoldsAt ws L cell q j
 
   -- Rule i has the instants from a up to b, and holds at those before k.
-  pub record Scanned (i a b k : ℕ) : Type 0 where
+  pub record HeldSoFar (i a b k : ℕ) : Type 0 where
     pub stretch : Stretch L (ruleAt ws i .place) a b
     pub from : a ≤ k
     pub up-to : k ≤ b
     pub held : (j : ℕ) → j < k → HoldsAt ws L cell i j
 
-  pub scanned-none : {i a b : ℕ} → Stretch L (ruleAt ws i .place) a b → Scanned i a b a
+  pub scanned-none : {i a b : ℕ} → Stretch L (ruleAt ws i .place) a b → HeldSoFar i a b a
   scanned-none w = record {
     stretch = w;
     from = le-refl _;
@@ -34,10 +34,10 @@ module _ (ws : List ℕ) (L : ℕ) (cell : ℕ → ℕ → ℕ) where
     held = λ j l p. absurd (omega (arith, w .only j (omega (arith, w .order, w .last)) p .0));
   }
 
-  module _ {i a b k : ℕ} (s : Scanned i a b k) where
+  module _ {i a b k : ℕ} (s : HeldSoFar i a b k) where
     -- Where the code's test of the rule says that it holds, or that it fails.
     module _ (l : k < b) {ρ : Rule} (r : ρ ≡ ruleAt ws i) {t : Bool} (test : t ≡ not (holds cell ρ k)) where
-      pub scanned-more : t ≡ false → Scanned i a b (k + 1)
+      pub scanned-more : t ≡ false → HeldSoFar i a b (k + 1)
       scanned-more e = record {
         stretch = s .stretch;
         from = omega (arith, s .from);

@@ -102,7 +102,7 @@ fn fails_at(rule: Rule, width: usize, l: usize, cells: &[u8], k: usize) -> bool
     if u == 0 {
         return false;
     }
-    let body = three::least(u, literal::literal_at(rule.body2, width, l, cells, k));
+    let body = three::lesser(u, literal::literal_at(rule.body2, width, l, cells, k));
     if body <= literal::literal_at(rule.head1, width, l, cells, k) {
         return false;
     }

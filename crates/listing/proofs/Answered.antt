@@ -13,7 +13,7 @@ use Rattle.meaning.specs.Rule.{ruleSize, words}
 use Rattle.meaning.specs.Translation.{translation}
 use Rattle.meaning.specs.Refusal.{firstOf, mostAtoms, mostRules, translateGrounds}
 use Rattle.meaning.specs.Service.{translateAnswer, translateAfter}
-use Rattle.translate.proofs.Answering.{accepted}
+use Rattle.translate.proofs.RoomGrounds.{accepted}
 use Rattle.listing.specs.Printed.{ascii, spelled, word, line, lineEnd, printed}
 
 -- ---- zeros

@@ -12,7 +12,7 @@ use Rattle.meaning.specs.Judge.{failsAt, failures, firstFailure, verdict
 use Rattle.meaning.specs.Translation.{handed, contextIn, edgeRule, joinRules, testRules, moveRules, rulesOf, rulesAt, translation}
 use Rattle.meaning.specs.Refusal.{ofFirst, ground1, ground2, stray, ground3, late, ground4, beyond, ground5, differ, misfit, ground6, ground6-last, ground7, ground8, ground8-cells, grounds9, ground10, isStar, ground11, ground12, badLiteral, badRule, ground13-length, ground13, ground14, recordGrounds, treeGrounds, starGrounds, checkGrounds, expandGrounds, valueGrounds, translateGrounds, judgeGrounds}
 use Rattle.meaning.specs.Service.{expandAnswer, expandAfter, rowBy, rowOf, table, valueAnswer, valueAfter, translateAnswer, translateAfter, judgment, judgeAnswer}
-use Rattle.meaning.specs.Examples.{Starred, Others, Filled}
+use Rattle.meaning.specs.Examples.{Starred, Others, Fillings}
 
 -- Every definition that an example runs through.
 unfoldable pub open-all : Unit {0}
@@ -55,7 +55,7 @@ others =
       printed = refl;
     }
 
-pub filled : Filled
+pub filled : Fillings
 unfolding open-all
 filled =
     record { f = refl; f-short = refl; h = refl; h-short = refl; j = refl; next = refl; next-short = refl; weak-next = refl }

@@ -5,7 +5,7 @@
 --   Refused s A number          the translator refuses with this number
 --   Starred                     the examples that the document marks to be proved
 --   Others                      example N, and the printed translation of ⟨step⟩p
---   Filled                      the judge over traces filled with labels, right ones and wrong ones
+--   Fillings                      the judge over traces filled with labels, right ones and wrong ones
 use Prim.Native.Nat.{ℕ, pred, _+_, _*_}
 use mathlib.Core.Path.{_≡_}
 use mathlib.Core.Bool.{false}
@@ -150,7 +150,7 @@ no rule instant = judged 0 0 rule instant
 abbrev pub hShort : List ℕ
 hShort = 1 ∷ 1 ∷ 1 ∷ 1 ∷ 1 ∷ 1 ∷ []
 
-pub record Filled : Type 0 where
+pub record Fillings : Type 0 where
   -- F, with labels for the back step, the star, p and the diamond: the star's is 2 at the last instant, where p is 0.
   pub f : Says onceP 1 2 (2 ∷ 0 ∷ 2 ∷ 2 ∷ 2 ∷ 0 ∷ 2 ∷ 2 ∷ 0 ∷ 2 ∷ []) yes
   -- A star's label of 1 where 2 is due: the rule c → x fails.

@@ -82,8 +82,8 @@ judged κs a o u p q = λ i. (
 -- ---- each function
 pub one-outcome : OneOutcome
 one-outcome = record {
-  least = λ κs a o u. alone;
-  greatest = λ κs a o u. alone;
+  lesser = λ κs a o u. alone;
+  greater = λ κs a o u. alone;
   imp = λ κs a o u. alone;
   negation = λ κs a o u. alone;
   record-count = λ κs a o u. alone;

@@ -55,8 +55,8 @@ module _ {n : ℕ} (ps : List (PK n)) (r : RK n) where
 
 pub record OneOutcome : Type 0 where
   -- three
-  pub least : OneFits three.least.Kinds.ps three.least.Kinds.r three.least.Reads.Post
-  pub greatest : OneFits three.greatest.Kinds.ps three.greatest.Kinds.r three.greatest.Reads.Post
+  pub lesser : OneFits three.lesser.Kinds.ps three.lesser.Kinds.r three.lesser.Reads.Post
+  pub greater : OneFits three.greater.Kinds.ps three.greater.Kinds.r three.greater.Reads.Post
   pub imp : OneFits three.imp.Kinds.ps three.imp.Kinds.r three.imp.Reads.Post
   pub negation : OneFits three.negation.Kinds.ps three.negation.Kinds.r three.negation.Reads.Post
   -- records

@@ -1,3 +1,3 @@
 -- What the proofs of several functions cite.
 pub mod Moving
-pub mod Standing
+pub mod MayStand

@@ -58,7 +58,7 @@ pub fn raise(row: &mut Row, by: &Row, u: u8)
 {
     let mut j: usize = 0;
     while j < WIDTH {
-        row[j] = three::greatest(row[j], three::least(by[j], u));
+        row[j] = three::greater(row[j], three::lesser(by[j], u));
         j += 1;
     }
 }

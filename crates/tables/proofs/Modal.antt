@@ -7,7 +7,7 @@ use lib.ListN.{length, set}
 use Rattle.meaning.specs.Record.{Mode}
 use Rattle.meaning.specs.Value.{Square, modalRow}
 use Rattle.rows.specs.Cells.{rowAt}
-use Rattle.rows.proofs.Along.{Along}
+use Rattle.rows.proofs.ByCell.{Along}
 use Rattle.rows.proofs.Same.{modal-same}
 use Rattle.rows.proofs.Stored.{stored-more}
 

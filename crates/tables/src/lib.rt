@@ -77,7 +77,7 @@ fn diamond_cell(s: &Square, table: &[u8], from: usize, l: usize, k: usize) -> u8
     let mut most: u8 = 0;
     let mut j: usize = 0;
     while j < l {
-        most = three::greatest(most, three::least(s[k * WIDTH + j], table[from + j]));
+        most = three::greater(most, three::lesser(s[k * WIDTH + j], table[from + j]));
         j += 1;
     }
     most
@@ -91,7 +91,7 @@ fn box_cell(s: &Square, table: &[u8], from: usize, l: usize, k: usize) -> u8
     let mut least: u8 = 2;
     let mut j: usize = 0;
     while j < l {
-        least = three::least(least, three::imp(s[k * WIDTH + j], table[from + j]));
+        least = three::lesser(least, three::imp(s[k * WIDTH + j], table[from + j]));
         j += 1;
     }
     least

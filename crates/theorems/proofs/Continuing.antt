@@ -13,7 +13,7 @@ use Rattle.meaning.specs.WellFormed.{WellFormed}
 use Rattle.meaning.proofs.Nodes.{differs}
 use Rattle.meaning.proofs.Parents.{InFirst, InSecond, used-in, has-parent, child-earlier}
 use Rattle.meaning.proofs.Climbing.{path-before}
-use Rattle.theorems.proofs.Shape.{contAt, Part, Shape}
+use Rattle.theorems.proofs.Shape.{contAt, PathChild, Shape}
 
 -- The sort of record r.
 abbrev pub sortAt : List ℕ → ℕ → Sort
@@ -40,7 +40,7 @@ HoldsPath (child path) = Unit {0}
 module _ (s : List ℕ) (L : ℕ) (cell : ℕ → ℕ → ℕ) (q : ℕ) (l : q < count s)
     (up : sortAt s q ≡ path → Onto s q (contAt s q)) where
   -- A part of a path q.
-  module _ {r : ℕ} {m : Mode} {c : ℕ} (p : Part s q r m c) (e : sortAt s q ≡ path) where
+  module _ {r : ℕ} {m : Mode} {c : ℕ} (p : PathChild s q r m c) (e : sortAt s q ≡ path) where
     after : Later s r q
     after = record { later = p .child .earlier; within = l; sorted = e }
 

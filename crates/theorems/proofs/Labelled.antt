@@ -19,7 +19,7 @@ use Rattle.meaning.proofs.Nodes.{tree-of}
 use Rattle.meaning.proofs.Within.{joined, gate}
 use Rattle.meaning.proofs.Modality.{modal-congruence, modal-choice, modal-sequence, modal-test}
 use Rattle.meaning.proofs.Solution.{star-solves}
-use Rattle.theorems.proofs.Shape.{modeAt, contAt, Child, Part, Shape}
+use Rattle.theorems.proofs.Shape.{modeAt, contAt, Child, PathChild, Shape}
 use Rattle.theorems.proofs.Keeping.{Keeping}
 use Rattle.meaning.proofs.Literals.{literal-column, literal-false, literal-true}
 use Rattle.theorems.proofs.Saying.{same-says, join-says, test-says, move-says}
@@ -55,7 +55,7 @@ module _ {s : List ℕ} {A L : ℕ} {cell grid : ℕ → ℕ → ℕ} (w : WellF
     unfolding meant
     form-row {q} c k h = rw (c .sorted) at (before q (c .earlier)) k h
 
-    path-row : {q : ℕ} {m : Mode} {c : ℕ} → Part s r q m c → (k : ℕ) → k < L
+    path-row : {q : ℕ} {m : Mode} {c : ℕ} → PathChild s r q m c → (k : ℕ) → k < L
         → X q k ≡ modalRow m L (squareOf L cell (pathAt s q)) (X c) k
     unfolding meant
     path-row {q} p k h = rw (p .child .sorted, p .moded, p .continued) at (before q (p .child .earlier) k h)

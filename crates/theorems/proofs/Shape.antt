@@ -22,7 +22,7 @@ pub record Child (s : List ℕ) (r q : ℕ) (σ : Sort) : Type 0 where
   pub earlier : q < r
   pub sorted : sortOf (kindAt s q) ≡ σ
 
-pub record Part (s : List ℕ) (r q : ℕ) (m : Mode) (c : ℕ) : Type 0 where
+pub record PathChild (s : List ℕ) (r q : ℕ) (m : Mode) (c : ℕ) : Type 0 where
   pub child : Child s r q path
   pub moded : modeAt s q ≡ m
   pub continued : contAt s q ≡ c
@@ -31,13 +31,13 @@ module _ (s : List ℕ) (L : ℕ) (cell : ℕ → ℕ → ℕ) where
   unfoldable pub Shape : Kind → ℕ → Type 0
   Shape (constant v) r = Unit {0}
   Shape atom r = Unit {0}
-  Shape (modal m) r = Part s r (fieldA s r) m (fieldB s r) × Child s r (fieldB s r) formula
+  Shape (modal m) r = PathChild s r (fieldA s r) m (fieldB s r) × Child s r (fieldB s r) formula
   Shape (move w) r = contAt s r < count s
   Shape test r = (contAt s r < count s) × Child s r (fieldA s r) formula
-  Shape choice r = Part s r (fieldA s r) (modeAt s r) (contAt s r) × Part s r (fieldB s r) (modeAt s r) (contAt s r)
-  Shape sequence r = Part s r (fieldA s r) (modeAt s r) (fieldB s r) × Part s r (fieldB s r) (modeAt s r) (contAt s r)
+  Shape choice r = PathChild s r (fieldA s r) (modeAt s r) (contAt s r) × PathChild s r (fieldB s r) (modeAt s r) (contAt s r)
+  Shape sequence r = PathChild s r (fieldA s r) (modeAt s r) (fieldB s r) × PathChild s r (fieldB s r) (modeAt s r) (contAt s r)
   Shape star r =
-      (contAt s r < count s) × Part s r (fieldA s r) (modeAt s r) r
+      (contAt s r < count s) × PathChild s r (fieldA s r) (modeAt s r) r
       × ((w : Way) × ((k j : ℕ) → 0 < squareOf L cell (pathAt s (fieldA s r)) k j → Strictly w k j))
   Shape (shorthand σ) r = ⊥
   Shape unknown r = ⊥

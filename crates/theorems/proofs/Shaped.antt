@@ -11,14 +11,14 @@ use Rattle.meaning.specs.Tree.{pathAt}
 use Rattle.meaning.specs.Translation.{Context, handed, context}
 use Rattle.meaning.specs.WellFormed.{WellFormed}
 use Rattle.theorems.specs.Demand3.{Accepted}
-use Rattle.theorems.proofs.Shape.{contAt, Child, Part, Shape}
+use Rattle.theorems.proofs.Shape.{contAt, Child, PathChild, Shape}
 use Rattle.theorems.proofs.Cleared.{OneWay, accepted-star}
 use Rattle.meaning.proofs.Accepted.{starred-formed}
 use Rattle.meaning.proofs.Climbing.{path-before, continuation-record, first-context, second-context}
 
 -- ---- children
 -- A child that is a path has the mode and the continuation of what it stands under.
-part-of : {s : List ℕ} {r q : ℕ} {c : Context} → Child s r q path → context s q ≡ c → Part s r q (c .mode) (c .continuation)
+part-of : {s : List ℕ} {r q : ℕ} {c : Context} → Child s r q path → context s q ≡ c → PathChild s r q (c .mode) (c .continuation)
 part-of h e = record {
   child = h;
   moded = ap (λ (c : Context). c .mode) e;
@@ -36,12 +36,12 @@ module _ {s : List ℕ} {A : ℕ} (w : WellFormed core s A) (r : ℕ) (l : r < c
 
     -- What the record hands to a first child that is a path,
     first-part : useA K ≡ child path
-        → let c = handed K true (fieldB s r) r (context s r) in Part s r (fieldA s r) (c .mode) (c .continuation)
+        → let c = handed K true (fieldB s r) r (context s r) in PathChild s r (fieldA s r) (c .mode) (c .continuation)
     first-part u = part-of (first-child u) (rw e at (first-context w r l {σ = path} (rw e u)))
 
     -- and to a second one, which isn't the first.
     second-part : {σ : Sort} → useA K ≡ child σ → useB K ≡ child path
-        → let c = handed K false (fieldB s r) r (context s r) in Part s r (fieldB s r) (c .mode) (c .continuation)
+        → let c = handed K false (fieldB s r) r (context s r) in PathChild s r (fieldB s r) (c .mode) (c .continuation)
     second-part {σ} t u =
         part-of (second-child u) (rw e at (second-context w r l {σ = σ} (rw e t) {τ = path} (rw e u)))
 

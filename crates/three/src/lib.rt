@@ -4,7 +4,7 @@ ghost use Prim.Native.Nat.{min, max};
 ghost use Rattle.meaning.specs.Three.{imp, negation};
 
 // The value of "u and v".
-pub fn least(u: u8, v: u8) -> u8
+pub fn lesser(u: u8, v: u8) -> u8
     ensures { λ w. ⌜ w ≡ min u v ⌝ }
 {
     if u < v {
@@ -14,7 +14,7 @@ pub fn least(u: u8, v: u8) -> u8
 }
 
 // The value of "u or v".
-pub fn greatest(u: u8, v: u8) -> u8
+pub fn greater(u: u8, v: u8) -> u8
     ensures { λ w. ⌜ w ≡ max u v ⌝ }
 {
     if u < v {

@@ -1,2 +1,2 @@
 -- What the proofs of several functions cite.
-pub mod Answering
+pub mod RoomGrounds

@@ -12,7 +12,7 @@ use Rattle.meaning.specs.Tree.{formAt}
 use Rattle.meaning.specs.Value.{valueOf}
 use Rattle.meaning.specs.Service.{rowBy, rowOf, table}
 use Rattle.rows.specs.Cells.{rowAt, Put}
-use Rattle.value.specs.Valuing.{Under, Legal, Asked, Valued}
+use Rattle.value.specs.Valuing.{Under, Legal, Asked, RowsValued}
 use Rattle.value.proofs.Table.{row-end}
 use Rattle.value.proofs.Tabled.{rows-written}
 use Rattle.value.proofs.Reached.{all-under}
@@ -27,7 +27,7 @@ module _ {s : List ℕ} {A L : ℕ} {cells d : List ℕ} (w : Legal s A L cells 
       let e : r ≡ pred (count s) = omega arith in
       (record { legal = rw (clear .size) w; index = omega arith }, rw e (w .formed .last))
 
-  module _ {done : List ℕ} (v : Valued s A L cells r cleared done) where
+  module _ {done : List ℕ} (v : RowsValued s A L cells r cleared done) where
     pub first-value : (i : ℕ) → i ≡ r * L → getD done i 0 ≡ valueOf L (cellOf A cells) (formAt s (pred (count s))) 0
     first-value i h =
         let e : pred (count s) ≡ r = omega arith in

@@ -14,8 +14,8 @@ use Rattle.meaning.specs.Value.{Square, modalRow, moveSquare, testSquare, starS
 use Rattle.meaning.proofs.Onward.{square-bound}
 use Rattle.records.specs.Code.{modeOf, wayOf}
 use Rattle.rows.specs.Cells.{at, rowAt, Holds, Put}
-use Rattle.joining.specs.Joining.{Part, joinOf}
-use Rattle.value.specs.Valuing.{Under, Right, Valued, Squared}
+use Rattle.joining.specs.Joining.{PathPart, joinOf}
+use Rattle.value.specs.Valuing.{Under, Right, RowsValued, Squared}
 use Rattle.meaning.proofs.Nodes.{differs}
 use Rattle.records.proofs.Numbers.{path-number, formula-number}
 use Rattle.value.proofs.Meant.{val, sq, value-constant, value-atom, value-modal}
@@ -37,7 +37,7 @@ module _ {s : List ℕ} {A L : ℕ} {cells : List ℕ} {r n : ℕ} {t : List ℕ
   module _ (w : AskedAs s A L cells r t formula) (num : n ≡ kindByte s r) {start : ℕ} (at-row : start ≡ r * L) where
     -- A formula with no children.
     leaf : {g : ℕ → ℕ} {new : List ℕ} → Put L start g t new → ((k : ℕ) → k < L → g k ≡ val (w .0) r k)
-        → Childless (useA (kindAt s r)) → Childless (useB (kindAt s r)) → Valued s A L cells r t new
+        → Childless (useA (kindAt s r)) → Childless (useB (kindAt s r)) → RowsValued s A L cells r t new
     leaf {g} {new} p e a b =
         let put = rw at-row at p in
         record {
@@ -45,20 +45,20 @@ module _ {s : List ℕ} {A L : ℕ} {cells : List ℕ} {r n : ℕ} {t : List ℕ
           rows = under-all (Done s A L cells new) (λ _. put-right put e) (λ σ u. absurd (a σ u)) (λ σ u. absurd (b σ u));
         }
 
-    pub constant-done : {new : List ℕ} → n < 2 → Put L start (λ k. n * 2) t new → Valued s A L cells r t new
+    pub constant-done : {new : List ℕ} → n < 2 → Put L start (λ k. n * 2) t new → RowsValued s A L cells r t new
     constant-done l p =
         leaf p (λ k h. ap (λ (i : ℕ). i * 2) num ∙ sym (value-constant (w .0) k (omega arith)))
         (constant-first _ (omega arith)) (leaf-second _ (omega arith))
 
     pub atom-done : {a : ℕ} {new : List ℕ} → n ≡ 2 → a ≡ fieldA s r → Put L start (λ k. cellOf A cells k a) t new
-        → Valued s A L cells r t new
+        → RowsValued s A L cells r t new
     atom-done e fa p =
         leaf p (λ k h. ap (cellOf A cells k) fa ∙ sym (value-atom (w .0) k (omega arith)))
         (atom-first _ (omega arith)) (leaf-second _ (omega arith))
 
     pub modal-done : {a b from : ℕ} {bytes t₁ t₂ new : List ℕ} → 3 ≤ n → a ≡ fieldA s r → b ≡ fieldB s r → from ≡ b * L
-        → Valued s A L cells b t t₁ → Valued s A L cells a t₁ t₂ → Squared s A L cells a bytes
-        → Put L start (modalRow (modeOf n) L (at bytes) (rowAt t₂ from)) t₂ new → Valued s A L cells r t new
+        → RowsValued s A L cells b t t₁ → RowsValued s A L cells a t₁ t₂ → Squared s A L cells a bytes
+        → Put L start (modalRow (modeOf n) L (at bytes) (rowAt t₂ from)) t₂ new → RowsValued s A L cells r t new
     modal-done {a} {b} {from} {bytes} {t₁} {t₂} {new} l fa fb fr v₁ v₂ q p =
         let five = formula-number (w .0 .legal .formed) r (w .0 .index) (w .1) in
         let ha = modal-path (refl, w) num l fa in
@@ -89,7 +89,7 @@ module _ {s : List ℕ} {A L : ℕ} {cells : List ℕ} {r n : ℕ} {t : List ℕ
     path-rows {new} = under-all (Done s A L cells new) (λ g. absurd (differs g (w .1)))
 
     pub move-done : {bytes : List ℕ} → n < 7 → Holds L bytes (moveSquare (wayOf n))
-        → Valued s A L cells r t t × Squared s A L cells r bytes
+        → RowsValued s A L cells r t t × Squared s A L cells r bytes
     move-done l h =
         let five = path-number (w .0 .legal .formed) r (w .0 .index) (w .1) .0 in (
           record {
@@ -101,8 +101,8 @@ module _ {s : List ℕ} {A L : ℕ} {cells : List ℕ} {r n : ℕ} {t : List ℕ
         )
 
     -- A test has its formula's rows, and a square from its formula's row.
-    pub test-valued : {a : ℕ} {t₁ : List ℕ} → kindByte s r ≡ 7 → a ≡ fieldA s r → Valued s A L cells a t t₁
-        → Valued s A L cells r t t₁
+    pub test-valued : {a : ℕ} {t₁ : List ℕ} → kindByte s r ≡ 7 → a ≡ fieldA s r → RowsValued s A L cells a t t₁
+        → RowsValued s A L cells r t t₁
     test-valued {a} {t₁} seven fa v =
         let ha = test-formula (refl, w) refl seven fa in
         record {
@@ -118,8 +118,8 @@ module _ {s : List ℕ} {A L : ℕ} {cells : List ℕ} {r n : ℕ} {t : List ℕ
         ap (λ (x : ℕ). cond (eqb j k) x 0) (rw (fs, ← fa) (right .values k m)) ∙ sym (square-test (w .0) k j seven)
 
     pub test-done : {a start : ℕ} {bytes t₁ : List ℕ} → n ≡ 7 → a ≡ fieldA s r → start ≡ a * L
-        → Valued s A L cells a t t₁ → Holds L bytes (testSquare (rowAt t₁ start))
-        → Valued s A L cells r t t₁ × Squared s A L cells r bytes
+        → RowsValued s A L cells a t t₁ → Holds L bytes (testSquare (rowAt t₁ start))
+        → RowsValued s A L cells r t t₁ × Squared s A L cells r bytes
     test-done {a} e fa fs v h =
         let seven : kindByte s r ≡ 7 = sym num ∙ e in
         let ha = test-formula (refl, w) num e fa in
@@ -132,7 +132,7 @@ module _ {s : List ℕ} {A L : ℕ} {cells : List ℕ} {r n : ℕ} {t : List ℕ
         let low = square-bound L (cellOf A cells) (λ k i _. w .0 .legal .trace .low (A * k + i)) (pathAt s a) k j h in
         omega (arith, q .cells k j h l)
 
-    pub square-part : {bytes : List ℕ} → Squared s A L cells r bytes → Part L n bytes
+    pub square-part : {bytes : List ℕ} → Squared s A L cells r bytes → PathPart L n bytes
     square-part {bytes} q = record {
       low = square-low r q;
       moves = λ l k j h m.
@@ -153,9 +153,9 @@ module _ {s : List ℕ} {A L : ℕ} {cells : List ℕ} {r n : ℕ} {t : List ℕ
           cells = λ k j h l. is k j h l ∙ star-again L body low k j h l ∙ sym (star-same L (at bytes) (starSquare L body) is k j h l);
         }
 
-    pub star-done : {a : ℕ} {bytes new t₁ : List ℕ} → n ≡ 10 → a ≡ fieldA s r → Valued s A L cells a t t₁
+    pub star-done : {a : ℕ} {bytes new t₁ : List ℕ} → n ≡ 10 → a ≡ fieldA s r → RowsValued s A L cells a t t₁
         → Squared s A L cells a bytes → Holds L new (starSquare L (at bytes))
-        → Valued s A L cells r t t₁ × Squared s A L cells r new
+        → RowsValued s A L cells r t t₁ × Squared s A L cells r new
     star-done {a} {bytes} e fa v q h =
         let ten : kindByte s r ≡ 10 = sym num ∙ e in
         let ha = part-first (refl, w) num (omega arith) fa in (
@@ -168,8 +168,8 @@ module _ {s : List ℕ} {A L : ℕ} {cells : List ℕ} {r n : ℕ} {t : List ℕ
         )
 
     pub join-done : {a b : ℕ} {x y : Square} {new t₁ t₂ : List ℕ} → 8 ≤ n → (n ≡ 10 → ⊥) → a ≡ fieldA s r → b ≡ fieldB s r
-        → Valued s A L cells a t t₁ → Agree L x (sq (w .0) a) → Valued s A L cells b t₁ t₂ → Agree L y (sq (w .0) b)
-        → Holds L new (joinOf n L x y) → Valued s A L cells r t t₂ × Squared s A L cells r new
+        → RowsValued s A L cells a t t₁ → Agree L x (sq (w .0) a) → RowsValued s A L cells b t₁ t₂ → Agree L y (sq (w .0) b)
+        → Holds L new (joinOf n L x y) → RowsValued s A L cells r t t₂ × Squared s A L cells r new
     join-done {a} {b} {x} {y} l d fa fb v₁ qa v₂ qb h =
         let eleven = path-number (w .0 .legal .formed) r (w .0 .index) (w .1) .1 in
         let ha = part-first (refl, w) num l fa in

@@ -16,7 +16,7 @@ use Rattle.meaning.proofs.Reach.{only-there, value-there, there-bound, sequence
 use Rattle.rows.specs.Cells.{at, rowAt, Holds}
 use Rattle.squares.specs.Places.{capped}
 use Rattle.joining.specs.Joining.{joinOf}
-use Rattle.value.specs.Valuing.{Under, Valued, Squared}
+use Rattle.value.specs.Valuing.{Under, RowsValued, Squared}
 use Rattle.rows.proofs.Same.{Agree, holds-same}
 use Rattle.value.proofs.Children.{AskedAs, Tested, part-first, tested-formula}
 use Rattle.value.proofs.Recursion.{test-valued, test-agrees, join-done}
@@ -41,8 +41,8 @@ capped-sequence L f q k j h l =
 module _ {s : List ℕ} {A L : ℕ} {cells : List ℕ} {r n : ℕ} {t : List ℕ}
     (w : AskedAs s A L cells r t path) (num : n ≡ kindByte s r) where
   pub tested-done : {a b f start : ℕ} {y new t₁ t₂ : List ℕ} → Tested s r n a → f ≡ fieldA s a → b ≡ fieldB s r → start ≡ f * L
-      → Valued s A L cells f t t₁ → Valued s A L cells b t₁ t₂ → Squared s A L cells b y
-      → Holds L new (capped (rowAt t₂ start) (at y)) → Valued s A L cells r t t₂ × Squared s A L cells r new
+      → RowsValued s A L cells f t t₁ → RowsValued s A L cells b t₁ t₂ → Squared s A L cells b y
+      → Holds L new (capped (rowAt t₂ start) (at y)) → RowsValued s A L cells r t t₂ × Squared s A L cells r new
   unfolding joinOf
   tested-done {a} {b} {f} {start} {y} {new} {t₁} {t₂} e ff fb fs v₁ v₂ q h =
       let ha = part-first (refl, w) num (omega arith) (e .first) in

@@ -4,7 +4,7 @@
 --   Legal s A L cells room         what the refusals leave: a formula, a trace, and room for the table
 --   Asked s A L cells r t          what is asked where record r is valued into the table t
 --   Steady s A L cells r old new   right rows stay right, and so do the rows of paths and all that stands after row r
---   Valued s A L cells r old new   besides, the rows of the formulas under r are right
+--   RowsValued s A L cells r old new   besides, the rows of the formulas under r are right
 --   Squared s A L cells p bytes    the bytes are the square of path p
 --   Moves s n p                    path p is a move of the kind n, with tests before it or after it
 --   PathSquare s L p bytes         over L instants the bytes are the square of path p, on some trace
@@ -43,7 +43,7 @@ module _ (s : List ℕ) (A L : ℕ) (cells : List ℕ) where
     pub paths : (q k : ℕ) → sortOf (kindAt s q) ≡ path → k < L → rowAt new (q * L) k ≡ rowAt old (q * L) k
     pub after : (i : ℕ) → r * L + L ≤ i → getD new i 0 ≡ getD old i 0
 
-  pub record Valued (r : ℕ) (old new : List ℕ) : Type 0 where
+  pub record RowsValued (r : ℕ) (old new : List ℕ) : Type 0 where
     pub steady : Steady r old new
     pub rows : (q : ℕ) → Under s r q → sortOf (kindAt s q) ≡ formula → Right new q
 

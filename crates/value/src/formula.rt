@@ -7,7 +7,7 @@ ghost use Rattle.meaning.specs.Record.{core, count, formula, path, sortOf, kind
 ghost use Rattle.meaning.specs.Value.{starSquare};
 ghost use Rattle.meaning.specs.WellFormed.{WellFormed};
 ghost use Rattle.rows.specs.Cells.{at, Holds};
-ghost use Rattle.value.specs.Valuing.{Asked, Valued, Squared, Moves, PathSquare};
+ghost use Rattle.value.specs.Valuing.{Asked, RowsValued, Squared, Moves, PathSquare};
 use records::kind;
 use records::layout;
 use rows::Square;
@@ -33,7 +33,7 @@ pub fn value_formula(
     table: &mut [u8],
 )
     requires { ⌜ Asked (now records) atoms l (now cells) r (now table) × (sortOf (kindAt (now records) r) ≡ formula) ⌝ }
-    ensures { λ _. ⌜ Valued (now (records .entry)) atoms l (now (cells .entry)) r (now (table .entry)) (now (table .exit)) ⌝ }
+    ensures { λ _. ⌜ RowsValued (now (records .entry)) atoms l (now (cells .entry)) r (now (table .entry)) (now (table .exit)) ⌝ }
 {
     let kind = layout::kind_at(records, r);
     let start = tables::row_start(r, l);
@@ -59,7 +59,7 @@ fn path_square(
     table: &mut [u8],
 ) -> Square
     requires { ⌜ Asked (now records) atoms l (now cells) p (now table) × (sortOf (kindAt (now records) p) ≡ path) ⌝ }
-    ensures { λ s. ⌜ Valued (now (records .entry)) atoms l (now (cells .entry)) p (now (table .entry)) (now (table .exit)) × Squared (now (records .entry)) atoms l (now (cells .entry)) p s ⌝ }
+    ensures { λ s. ⌜ RowsValued (now (records .entry)) atoms l (now (cells .entry)) p (now (table .entry)) (now (table .exit)) × Squared (now (records .entry)) atoms l (now (cells .entry)) p s ⌝ }
 {
     let kind = layout::kind_at(records, p);
     if kind < kind::TEST {

@@ -23,7 +23,7 @@ loop-again : tie.Need-loop-again Inv-loop μ-loop
 loop-again c =
     let turn = c .before .before .before .before .loop in
     let own = turn .inv .1 .off (turn .i) (λ m h z. omega arith) in
-    (omega arith, stored-more (turn .inv .1) refl (omega arith) (omega (arith, c .greatest .ensures)) (λ m h. h))
+    (omega arith, stored-more (turn .inv .1) refl (omega arith) (omega (arith, c .greater .ensures)) (λ m h. h))
 
 returns : tie.Need-returns Inv-loop μ-loop
 unfolding choiceSquare

@@ -9,14 +9,14 @@ returns-2 : tie.Need-returns-2
 returns-2 c =
     let body = c .before .before in
     let first = body .before .before .before in
-    by-head _ (first .before .before .pre) (first .literal-at .ensures) (body .before .literal-at2 .ensures) (body .least .ensures)
+    by-head _ (first .before .before .pre) (first .literal-at .ensures) (body .before .literal-at2 .ensures) (body .lesser .ensures)
     (inl (c .before .literal-at3 .ensures)) (c .if2 .taken)
 
 returns-3 : tie.Need-returns-3
 returns-3 c =
     let body = c .before .before .before .before in
     let first = body .before .before .before in
-    by-head _ (first .before .before .pre) (first .literal-at .ensures) (body .before .literal-at2 .ensures) (body .least .ensures)
+    by-head _ (first .before .before .pre) (first .literal-at .ensures) (body .before .literal-at2 .ensures) (body .lesser .ensures)
     (inr (c .before .literal-at4 .ensures)) (c .if3 .taken)
 
 returns-4 : tie.Need-returns-4
@@ -25,7 +25,7 @@ returns-4 c =
     let head = second .before .before in
     let body = head .before in
     let first = body .before .before .before in
-    by-last _ (first .before .before .pre) (first .literal-at .ensures) (body .before .literal-at2 .ensures) (body .least .ensures)
+    by-last _ (first .before .before .pre) (first .literal-at .ensures) (body .before .literal-at2 .ensures) (body .lesser .ensures)
     (head .literal-at3 .ensures) (second .literal-at4 .ensures) (c .literal-at5 .ensures) (second .before .if2 .left)
     (c .before .if3 .left)
 

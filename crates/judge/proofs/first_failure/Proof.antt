@@ -8,12 +8,12 @@ use Rattle.meaning.specs.Run.{cellOf}
 use Rattle.meaning.specs.Service.{judgment}
 use Rattle.meaning.proofs.Judging.{yes-means}
 use Rattle.judge.proofs.PlaceStretch.{rule-stretch}
-use Rattle.judge.proofs.Scanning.{RulesHold, Scanned, scanned-none, scanned-more, scanned-found, scanned-done}
+use Rattle.judge.proofs.Scanning.{RulesHold, HeldSoFar, scanned-none, scanned-more, scanned-found, scanned-done}
 use Rattle.judge.proofs.first_failure.Statement.{statement}
 use Rattle.judge.proofs.first_failure.Tie as tie
 
 abbrev Inv-loop : tie.InvT-loop
-Inv-loop rules width l cells n i k₀ rule end k = Scanned rules l (cellOf width cells) i k₀ end k
+Inv-loop rules width l cells n i k₀ rule end k = HeldSoFar rules l (cellOf width cells) i k₀ end k
 
 abbrev μ-loop : tie.MeasureT-loop
 μ-loop rules width l cells n i k₀ rule end k = end - k

@@ -4,7 +4,7 @@ use mathlib.Core.Path.{refl}
 use native.Mathlib.Omega.{arith}
 use Rattle.rows.specs.Cells.{rowAt}
 use Rattle.rows.proofs.Stored.{stored-none, stored-more}
-use Rattle.rows.proofs.Along.{Along, along-put}
+use Rattle.rows.proofs.ByCell.{Along, along-put}
 use borrow.Author.Needs.{needs}
 use Rattle.rows.proofs.part.Statement.{statement}
 use Rattle.rows.proofs.part.Tie as tie

@@ -5,7 +5,7 @@ use native.Mathlib.Omega.{arith}
 use lib.ListN.{getD}
 use Rattle.rows.specs.Cells.{width}
 use Rattle.rows.proofs.Stored.{stored-none, stored-more}
-use Rattle.rows.proofs.Along.{Along, along-rowed}
+use Rattle.rows.proofs.ByCell.{Along, along-rowed}
 use borrow.Author.Needs.{needs}
 use Rattle.rows.proofs.put_row.Statement.{statement}
 use Rattle.rows.proofs.put_row.Tie as tie

@@ -5,7 +5,7 @@ use native.Mathlib.Omega.{arith}
 use lib.ListN.{getD}
 use Rattle.rows.specs.Cells.{width}
 use Rattle.rows.proofs.Stored.{Stored, stored-none, stored-more}
-use Rattle.rows.proofs.Along.{along-values}
+use Rattle.rows.proofs.ByCell.{along-values}
 use borrow.Author.Needs.{needs}
 use Rattle.rows.proofs.raise.Statement.{statement}
 use Rattle.rows.proofs.raise.Tie as tie
@@ -23,7 +23,7 @@ loop-again : tie.Need-loop-again Inv-loop μ-loop
 loop-again c =
     let turn = c .before .before .before .before .before .loop in
     let own = turn .inv .1 .off (turn .j) (λ i h z. omega arith) in
-    (omega arith, stored-more (turn .inv .1) refl (omega arith) (omega (arith, c .greatest .ensures, c .before .least .ensures)) (λ i h. h))
+    (omega arith, stored-more (turn .inv .1) refl (omega arith) (omega (arith, c .greater .ensures, c .before .lesser .ensures)) (λ i h. h))
 
 returns : tie.Need-returns Inv-loop μ-loop
 returns c = along-values (c .before .before .pre) (c .before .loop .inv .1) (omega arith)

@@ -7,7 +7,7 @@ use native.Mathlib.Omega.{arith}
 use borrow.Author.Needs.{needs}
 use Rattle.meaning.specs.Run.{cellOf}
 use Rattle.rows.proofs.Stored.{stored-none, stored-more}
-use Rattle.rows.proofs.Along.{Along, along-put}
+use Rattle.rows.proofs.ByCell.{Along, along-put}
 use Rattle.tables.proofs.put_atom.Statement.{statement}
 use Rattle.tables.proofs.put_atom.Tie as tie
 

@@ -4,7 +4,7 @@ use mathlib.Core.Path.{refl}
 use native.Mathlib.Omega.{arith}
 use borrow.Author.Needs.{needs}
 use Rattle.rows.proofs.Stored.{stored-none, stored-more}
-use Rattle.rows.proofs.Along.{Along, along-put}
+use Rattle.rows.proofs.ByCell.{Along, along-put}
 use Rattle.tables.proofs.put_constant.Statement.{statement}
 use Rattle.tables.proofs.put_constant.Tie as tie
 

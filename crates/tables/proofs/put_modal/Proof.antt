@@ -6,7 +6,7 @@ use Rattle.meaning.specs.Value.{modalRow}
 use Rattle.records.specs.Code.{modeOf}
 use Rattle.rows.specs.Cells.{at, rowAt}
 use Rattle.rows.proofs.Stored.{stored-none}
-use Rattle.rows.proofs.Along.{Along, along-put}
+use Rattle.rows.proofs.ByCell.{Along, along-put}
 use Rattle.tables.proofs.Modal.{along-modal}
 use Rattle.tables.proofs.put_modal.Statement.{statement}
 use Rattle.tables.proofs.put_modal.Tie as tie

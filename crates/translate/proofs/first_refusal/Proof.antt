@@ -10,7 +10,7 @@ use Rattle.meaning.specs.Refusal.{firstOf, starredGrounds}
 use Rattle.meaning.specs.WellFormed.{WellFormed}
 use Rattle.meaning.proofs.Accepted.{starred-formed}
 use Rattle.meaning.proofs.RuleCount.{sum-few, translation-counted}
-use Rattle.translate.proofs.Answering.{refused, refused-room, not-refused}
+use Rattle.translate.proofs.RoomGrounds.{refused, refused-room, not-refused}
 use Rattle.translate.proofs.first_refusal.Statement.{statement}
 use Rattle.translate.proofs.first_refusal.Tie as tie
 

@@ -3,7 +3,7 @@ use mathlib.Core.Path.{sym, _∙_}
 use borrow.Author.Needs.{needs}
 use borrow.Author.Tests.{eq-eqb, ne-eqb}
 use Rattle.meaning.specs.Service.{translateAnswer, translateAfter}
-use Rattle.translate.proofs.Answering.{accepted}
+use Rattle.translate.proofs.RoomGrounds.{accepted}
 use Rattle.translate.proofs.translate.Statement.{statement}
 use Rattle.translate.proofs.translate.Tie as tie
 

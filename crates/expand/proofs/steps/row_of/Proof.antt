@@ -9,7 +9,7 @@ use native.Mathlib.Omega.{arith}
 use Rattle.meaning.specs.Record.{numberOf, kinds, kindOf}
 use Rattle.meaning.specs.Shorthand.{expansion}
 use Rattle.records.proofs.Ranges.{stretch, onward}
-use Rattle.expand.specs.Steps.{formSteps, pathSteps, stepsOf, digits, rowOf}
+use Rattle.expand.specs.Steps.{formSteps, pathSteps, stepsOf, digits, rowNumber}
 use Rattle.expand.proofs.steps.row_of.Statement.{statement}
 use Rattle.expand.proofs.steps.row_of.Tie as tie
 
@@ -32,9 +32,9 @@ no-kind : tie.Need-returns-28
 unfolding Others kinds stepsOf digits formSteps pathSteps expansion numberOf
 no-kind c = go (ltb (c .before .args .kind) 32) refl
   where
-    go : (low : Bool) → ltb (c .before .args .kind) 32 ≡ low → 1 ≡ rowOf (kindOf (c .before .args .kind))
-    go true e = stretch rowOf 1 11 21 refl _ (others-after Unit _ 0 11 (others-before _ _ 32 16 (c .match .rest)) (omega arith)) (ltb-true _ _ e)
-    go false e = onward rowOf 48 0 refl _ (others-after (Others Unit _ 0 11) _ 32 16 (c .match .rest) (ltb-false _ _ e))
+    go : (low : Bool) → ltb (c .before .args .kind) 32 ≡ low → 1 ≡ rowNumber (kindOf (c .before .args .kind))
+    go true e = stretch rowNumber 1 11 21 refl _ (others-after Unit _ 0 11 (others-before _ _ 32 16 (c .match .rest)) (omega arith)) (ltb-true _ _ e)
+    go false e = onward rowNumber 48 0 refl _ (others-after (Others Unit _ 0 11) _ 32 16 (c .match .rest) (ltb-false _ _ e))
 
 pub row-of-spec : {M : Type 1} → statement M
 unfolding kinds kindOf stepsOf digits formSteps pathSteps expansion numberOf

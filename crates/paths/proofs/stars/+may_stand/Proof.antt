@@ -5,7 +5,7 @@ use mathlib.Core.Logic.{inl, inr}
 use borrow.Author.Needs.{needs}
 use borrow.Fn.Kinds.{In, Out}
 use borrow.Fn.PlainCycle.{Measures, is, falls, and}
-use Rattle.paths.proofs.Standing.{alone-stands, choice-stands, sequence-stands, other-stands, parts}
+use Rattle.paths.proofs.MayStand.{alone-stands, choice-stands, sequence-stands, other-stands, parts}
 use Rattle.paths.proofs.stars.may_stand.Reads as may-stand
 use Rattle.paths.proofs.stars.may_stand.Kinds.{ps, r}
 use Rattle.paths.proofs.stars.+may_stand.Lts-may_stand as lts
