@@ -26,7 +26,8 @@ module _ (ws : List ℕ) (L : ℕ) (cell : ℕ → ℕ → ℕ) where
     pub up-to : k ≤ b
     pub held : (j : ℕ) → j < k → HoldsAt ws L cell i j
 
-  pub scanned-none : {i a b : ℕ} → Stretch L (ruleAt ws i .place) a b → HeldSoFar i a b a
+module _ {ws : List ℕ} {L : ℕ} {cell : ℕ → ℕ → ℕ} where
+  pub scanned-none : {i a b : ℕ} → Stretch L (ruleAt ws i .place) a b → HeldSoFar ws L cell i a b a
   scanned-none w = record {
     stretch = w;
     from = le-refl _;
@@ -34,10 +35,10 @@ module _ (ws : List ℕ) (L : ℕ) (cell : ℕ → ℕ → ℕ) where
     held = λ j l p. absurd (omega (arith, w .only j (omega (arith, w .order, w .last)) p .0));
   }
 
-  module _ {i a b k : ℕ} (s : HeldSoFar i a b k) where
+  module _ {i a b k : ℕ} (s : HeldSoFar ws L cell i a b k) where
     -- Where the code's test of the rule says that it holds, or that it fails.
     module _ (l : k < b) {ρ : Rule} (r : ρ ≡ ruleAt ws i) {t : Bool} (test : t ≡ not (holds cell ρ k)) where
-      pub scanned-more : t ≡ false → HeldSoFar i a b (k + 1)
+      pub scanned-more : t ≡ false → HeldSoFar ws L cell i a b (k + 1)
       scanned-more e = record {
         stretch = s .stretch;
         from = omega (arith, s .from);
@@ -46,8 +47,8 @@ module _ (ws : List ℕ) (L : ℕ) (cell : ℕ → ℕ → ℕ) where
             (eq-or-lt-of-le (le-of-suc-le-suc (rw add-one at m)));
       }
 
-      pub scanned-found : t ≡ true → i < ruleCount ws → RulesHold i → verdict ws L cell ≡ no i k
-      scanned-found e m before = no-means ws L cell i k .1 (record {
+      pub scanned-found : t ≡ true → i < ruleCount ws → RulesHold ws L cell i → verdict ws L cell ≡ no i k
+      scanned-found e m before = no-means _ _ _ _ _ .1 (record {
         rule = m;
         instant = omega (arith, s .stretch .last);
         placed-there = s .stretch .within k (s .from) l;
@@ -56,7 +57,7 @@ module _ (ws : List ℕ) (L : ℕ) (cell : ℕ → ℕ → ℕ) where
         instants-before = s .held;
       })
 
-    pub scanned-done : b ≤ k → RulesHold i → RulesHold (i + 1)
+    pub scanned-done : b ≤ k → RulesHold ws L cell i → RulesHold ws L cell (i + 1)
     scanned-done d before q j l m p =
         ⊎-elim (λ (e : q ≡ i). rw e (s .held j (omega (arith, s .stretch .only j m (rw e at p) .1)) (rw e at p)))
         (λ (n : q < i). before q j n m p) (eq-or-lt-of-le (le-of-suc-le-suc (rw add-one at l)))

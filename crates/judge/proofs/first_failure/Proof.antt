@@ -27,8 +27,8 @@ abbrev μ-rules : tie.MeasureT-rules
 loop-holds : tie.Need-loop-holds Inv-loop μ-loop Inv-rules μ-rules
 loop-holds c =
     let r = c .before .before in
-    scanned-none _ _ _ (rule-stretch _ (r .before .before .before .before .before .pre) (omega arith) (r .rule-at .ensures) (c .start-of .ensures)
-    (c .before .end-of .ensures))
+    let f = r .before .before .before .before .before .pre in
+    scanned-none (rule-stretch _ f (omega arith) (r .rule-at .ensures) (c .start-of .ensures) (c .before .end-of .ensures))
 
 fails-at-requires : tie.Need-fails-at-requires Inv-loop μ-loop Inv-rules μ-rules
 fails-at-requires c κs =
@@ -44,20 +44,20 @@ fails-at-requires c κs =
 loop-again : tie.Need-loop-again Inv-loop μ-loop Inv-rules μ-rules
 loop-again c =
     let turn = c .before .before .before in
-    scanned-more _ _ _ (turn .loop .inv) (omega arith) (turn .before .before .before .rule-at .ensures) (c .before .fails-at .ensures) (c .if1 .left)
+    let r = turn .before .before .before in
+    scanned-more (turn .loop .inv) (omega arith) (r .rule-at .ensures) (c .before .fails-at .ensures) (c .if1 .left)
 
 rules-again : tie.Need-rules-again Inv-loop μ-loop Inv-rules μ-rules
 rules-again c =
     let rules = c .before .before .before .before .before .before in
-    (omega arith, scanned-done _ _ _ (c .before .loop .inv) (omega arith) (rules .rules .inv .1))
+    (omega arith, scanned-done (c .before .loop .inv) (omega arith) (rules .rules .inv .1))
 
 returns : tie.Need-returns Inv-loop μ-loop Inv-rules μ-rules
 unfolding judgment
 returns c =
     ⊎-elim
     (λ w. absurd (omega (arith, w .0 .left, c .if2 .taken)))
-    (λ w. rw (scanned-found _ _ _ (w .4 .inv) (w .5 .taken) (w .1 .ensures) (w .6 .ensures) (w .7 .taken) (omega arith)
-    (c .before .before .rules .inv .1))
+    (λ w. rw (scanned-found (w .4 .inv) (w .5 .taken) (w .1 .ensures) (w .6 .ensures) (w .7 .taken) (omega arith) (c .before .before .rules .inv .1))
     record { refused = refl; held = refl; failing = refl; failed = w .8 })
     (c .before .rules-test .came)
 
