@@ -40,13 +40,12 @@ fn moves_of(records: &[u8], moves: &[u8; layout::MOST_RECORDS], r: usize) -> u8
     requires { ⌜ Scanned (now records) r (now moves) ⌝ }
     ensures { λ x. ⌜ MovesAt (now (records .entry)) r x ⌝ }
 {
-    let first = moves[layout::field_a(records, r)];
-    let second = moves[layout::field_b(records, r)];
     match layout::kind_at(records, r) {
         kind::STEP => AHEAD,
         kind::BACK => BACK,
-        kind::CHOICE | kind::SEQUENCE => first | second,
-        kind::STAR => first,
+        kind::CHOICE | kind::SEQUENCE => moves[layout::field_a(records, r)]
+            | moves[layout::field_b(records, r)],
+        kind::STAR => moves[layout::field_a(records, r)],
         _ => 0,
     }
 }

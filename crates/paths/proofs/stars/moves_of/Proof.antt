@@ -5,55 +5,37 @@ use Rattle.paths.proofs.Moving.{first-small, second-small, step-moves, 
 use Rattle.paths.proofs.stars.moves_of.Statement.{statement}
 use Rattle.paths.proofs.stars.moves_of.Tie as tie
 
-abbrev second : tie.After-kind-at → tie.After-field-b
-second k = k .before .before
-
-abbrev first : tie.After-kind-at → tie.After-field-a
-first k = second k .before .before
-
 abbrev start : tie.After-kind-at → tie.Start
-start k = first k .before .before
+start k = k .before .before
 
-element-copy-out-first : tie.Need-element-copy-out-first
-element-copy-out-first c =
-    let w = c .before .before .pre in
-    rw (c .field-a .ensures) (first-small (w .whole .formed) (w .index))
-
-element-copy-out-second : tie.Need-element-copy-out-second
-element-copy-out-second c =
-    let w = c .before .before .before .before .pre in
-    rw (c .field-b .ensures) (second-small (w .whole .formed) (w .index))
-
-returns-4 : tie.Need-returns-4
-returns-4 c =
-    let k = c .before .before .before in
-    join-moves (start k .pre) (k .kind-at .ensures) (c .before .if1 .left) (c .if2 .taken) (first k .field-a .ensures)
-    (second k .field-b .ensures)
-
-returns-5 : tie.Need-returns-5
-returns-5 c =
-    let k = c .before .before in
-    let (((_, step), back), star) = c .before .match .rest in
-    other-moves (start k .pre) (k .kind-at .ensures) (λ low high. omega arith)
-
-returns-6 : tie.Need-returns-6
-returns-6 c =
-    let k = c .before .before .before in
-    let (((_, step), back), star) = c .before .before .match .rest in
-    other-moves (start k .pre) (k .kind-at .ensures) (λ low high. omega arith)
+-- The kind of a choice or a sequence.
+abbrev joined : tie.After-field-a2 → tie.After-kind-at
+joined a = a .before .before .before .before
 
 pub moves-of-spec : {M : Type 1} → statement M
 moves-of-spec =
     tie.close
     (tie.spec
     (λ c κs. search needs)
-    element-copy-out-first
     (λ c κs. search needs)
-    element-copy-out-second
+    (λ c. let w = start (c .before .before) .pre in rw (c .field-a .ensures) (first-small (w .whole .formed) (w .index)))
     (λ c κs. search needs)
-    (λ c. step-moves (start (c .before) .pre) (c .before .kind-at .ensures) (c .match .keys1))
-    (λ c. back-moves (start (c .before) .pre) (c .before .kind-at .ensures) (c .match .keys2))
-    (λ c. let k = c .before in star-moves (start k .pre) (k .kind-at .ensures) (c .match .keys3) (first k .field-a .ensures))
-    returns-4
-    returns-5
-    returns-6)
+    (λ c. let w = start (joined c) .pre in rw (c .field-a2 .ensures) (first-small (w .whole .formed) (w .index)))
+    (λ c κs. search needs)
+    (λ c. let w = start (joined (c .before .before)) .pre in
+    rw (c .field-b .ensures) (second-small (w .whole .formed) (w .index)))
+    (λ c. let k = c .before in step-moves (start k .pre) (k .kind-at .ensures) (c .match .keys1))
+    (λ c. let k = c .before in back-moves (start k .pre) (k .kind-at .ensures) (c .match .keys2))
+    (λ c. let a = c .before in
+    let k = a .before .before in
+    star-moves (start k .pre) (k .kind-at .ensures) (a .before .match .keys3) (a .field-a .ensures))
+    (λ c. let a = c .before .before .before in
+    let k = joined a in
+    join-moves (start k .pre) (k .kind-at .ensures) (a .before .before .if1 .left) (a .before .if2 .taken)
+    (a .field-a2 .ensures) (c .before .field-b .ensures))
+    (λ c. let k = c .before .before in
+    let (((_, step), back), star) = c .before .match .rest in
+    other-moves (start k .pre) (k .kind-at .ensures) (λ low high. omega arith))
+    (λ c. let k = c .before .before .before in
+    let (((_, step), back), star) = c .before .before .match .rest in
+    other-moves (start k .pre) (k .kind-at .ensures) (λ low high. omega arith)))
