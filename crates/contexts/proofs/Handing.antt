@@ -1,185 +1,156 @@
--- Handing down contexts, from the last record to the first. A path's parent is later, so its own context is known before
--- it hands any on; and a record has one parent, so no entry is stored twice.
-use Prim.Native.Nat.{ℕ, zero, suc, _+_, _*_, _/_, _<_, _≤_}
+-- Handing contexts down a path. A part stands under what the path's kind hands it, so what is asked of the path is asked
+-- of each of its parts. Once the path's own entry is stored and its parts are handed theirs, all under it is entered, and
+-- what was entered before still is.
+use Prim.Native.Nat.{ℕ, _*_, _/_, _+_, _<_, _≤_}
 use mathlib.Core.Path.{_≡_, refl, sym, ap, _∙_}
 use mathlib.Core.Bool.{Bool, true, false, true≢false}
 use mathlib.Core.List.{List}
 use mathlib.Core.Logic.{_⊎_, inl, inr}
+use native.Mathlib.Decide.{ℕ-discrete}
 use native.Mathlib.Omega.{arith}
-use lib.ListN.{length, getD, set, replicate, length-set, List·getD-eq-default}
-use lib.Seq.{ext-getD, getD-set-same, getD-set-other}
-use Rattle.meaning.specs.Record.{core, mostRecords, count, kindByte, kindAt, kindOf, kinds, fieldA, fieldB, formula, path, sortOf}
-use Rattle.meaning.specs.Record.{recordSize, Use, unused, atomNumber, child, useA, useB, parent, uses, columnsOf}
-use Rattle.meaning.specs.Record.{numberOf, modal}
+use lib.ListN.{length, set, length-set}
+use lib.Seq.{getD-set-same, getD-set-other}
+use Rattle.meaning.specs.Record.{Kind, choice, sequence, star, mostRecords, count, kindByte, kindAt, kindOf, kinds, fieldA, fieldB}
+use Rattle.meaning.specs.Record.{formula, path, Use, unused, atomNumber, child, useA, useB, columnsOf}
+use Rattle.meaning.specs.Tree.{modalNumber}
 use Rattle.meaning.specs.Translation.{handed, context}
-use Rattle.meaning.specs.WellFormed.{WellFormed}
-use Rattle.meaning.proofs.Bounds.{le-or-lt}
-use Rattle.meaning.proofs.Runs.{length-tabulate, getD-tabulate}
-use Rattle.meaning.proofs.Nodes.{either-sort, differs}
-use Rattle.meaning.proofs.Parents.{used-in, first-used, second-used, has-parent, child-earlier, parent-is, one-field}
+use Rattle.meaning.specs.WellFormed.{WellFormed, Fits}
 use Rattle.meaning.proofs.Climbing.{path-before, continuation-record, first-context, second-context}
 use Rattle.records.specs.Code.{modeOf}
 use Rattle.records.proofs.Ranges.{stretch}
-use Rattle.records.proofs.Numbers.{modal-kind, either-of}
+use Rattle.records.proofs.Numbers.{modal-kind, either-of, path-number}
 use Rattle.records.proofs.Held.{star-second}
-use Rattle.paths.specs.Asking.{Formed}
-use Rattle.paths.proofs.Moving.{first-small, second-small}
-use Rattle.contexts.specs.Contexts.{packed, entryBy, contextsOf, Handed}
+use Rattle.contexts.specs.Contexts.{packed, entryBy, Entered, PathUnder, itself, first, second, Given, Handed}
 
-mode-again : (n : ℕ) → 3 ≤ n → n < 5 → numberOf (modal (modeOf n)) ≡ n
-unfolding numberOf modeOf
-mode-again n h l = elim (either-of 3 n h l) [ inl e ↦ rw e | inr e ↦ rw e ]
-
-zeros-at : (n i : ℕ) → _≡_ {A = ℕ} (getD (replicate n 0) i 0) 0
-zeros-at zero i = refl
-zeros-at (suc n) zero = refl
-zeros-at (suc n) (suc i) = zeros-at n i
-
--- Kinds with no path among their children.
+-- ---- kinds with no path among their children
 abbrev isPath : Use → Bool
 isPath unused = false
 isPath atomNumber = false
 isPath (child formula) = false
 isPath (child path) = true
 
-pathless : (n : ℕ) → (n < 3) ⊎ ((5 ≤ n) × (n < 8)) → (isPath (useA (kindOf n)) ≡ false) × (isPath (useB (kindOf n)) ≡ false)
+no-path : {u : Use} → false ≡ isPath u → u ≡ child path → ⊥
+no-path e h = true≢false (sym (e ∙ ap isPath h))
+
+-- Constants, atoms, moves and tests,
+pub none-first : (n : ℕ) → (n < 3) ⊎ ((5 ≤ n) × (n < 8)) → useA (kindOf n) ≡ child path → ⊥
 unfolding kinds columnsOf
-pathless n (inl l) = (
-  sym (stretch (λ K. isPath (useA K)) false 0 3 refl n (omega arith) l),
-  sym (stretch (λ K. isPath (useB K)) false 0 3 refl n (omega arith) l),
-)
-pathless n (inr (m, l)) =
-    (sym (stretch (λ K. isPath (useA K)) false 5 3 refl n m l), sym (stretch (λ K. isPath (useB K)) false 5 3 refl n m l))
+none-first n (inl l) = no-path (stretch (λ K. isPath (useA K)) false 0 3 refl n (omega arith) l)
+none-first n (inr (m, l)) = no-path (stretch (λ K. isPath (useA K)) false 5 3 refl n m l)
 
-module _ {s : List ℕ} {A : ℕ} (w : WellFormed core s A) where
-  -- A path's parent is a later record.
-  later : (r : ℕ) → r < count s → sortOf (kindAt s r) ≡ path → (parent s r < count s) × (0 < uses s r (parent s r)) × (r < parent s r)
-  later r l e =
-      let (b, u) = has-parent w r (path-before w r l e) in
-      (b, u, child-earlier w r (parent s r) b u)
+-- and in the second field modalities too.
+pub none-second : (n : ℕ) → n < 8 → useB (kindOf n) ≡ child path → ⊥
+unfolding kinds columnsOf
+none-second n l = no-path (stretch (λ K. isPath (useB K)) false 0 8 refl n (omega arith) l)
 
-  module _ {q : ℕ} (l : q < count s) {contexts : List ℕ} (h : Handed s (q + 1) contexts) where
-    -- So its own context is known.
-    pub own : sortOf (kindAt s q) ≡ path → getD contexts q 0 ≡ packed (context s q)
-    own e = h .paths q l e (omega (arith, later q l e .2))
+-- ---- what parts stand under
+number-again : (n : ℕ) → 3 ≤ n → n < 5 → modalNumber (modeOf n) ≡ n
+unfolding modalNumber modeOf
+number-again n h l = elim (either-of 3 n h l) [ inl e ↦ rw e | inr e ↦ rw e ]
 
-    -- Entries at the children that are paths make one record more, if all others are kept.
-    pub handed-by : {new : List ℕ} → length new ≡ mostRecords
-        → (useA (kindAt s q) ≡ child path → getD new (fieldA s q) 0 ≡ packed (context s (fieldA s q)))
-        → (useB (kindAt s q) ≡ child path → getD new (fieldB s q) 0 ≡ packed (context s (fieldB s q)))
-        → ((r : ℕ) → (useA (kindAt s q) ≡ child path → r ≡ fieldA s q → ⊥) → (useB (kindAt s q) ≡ child path → r ≡ fieldB s q → ⊥)
-        → getD new r 0 ≡ getD contexts r 0)
-        → Handed s q new
-    handed-by {new} size first second others = record {
-      size = size;
-      formulas = λ r e.
-          others r (λ u f. differs e (rw f (rw u at (w .first q l) .1))) (λ u f. differs e (rw f (rw u at (w .second q l) .1)))
-          ∙ h .formulas r e;
-      paths = λ r k e b.
-          let (p, u, _) = later r k e in
-          elim (le-or-lt (q + 1) (parent s r)) [
-            | inl m ↦
-                others r
-                (λ t f. omega (arith, parent-is w r q l (first-used s r q (path, t, sym f))))
-                (λ t f. omega (arith, parent-is w r q l (second-used s r q (path, t, sym f))))
-                ∙ h .paths r k e m
-            | inr m ↦
-                let z : parent s r ≡ q = omega arith in
-                elim (used-in s r q (rw z at u)) [
-                  | inl (σ, t, f) ↦ let (_, o) = rw t at (w .first q l) in rw f at (first (cc))
-                  | inr (σ, t, f) ↦ let (_, o) = rw t at (w .second q l) in rw f at (second (cc))
-                ]
-          ];
-    }
+-- The children of record q that are paths, by q's kind K.
+module _ {s : List ℕ} {A : ℕ} (w : WellFormed false s A) {q : ℕ} (l : q < count s) {K : Kind} (e : kindAt s q ≡ K)
+    (a : useA K ≡ child path) {contexts : List ℕ} (size : length contexts ≡ mostRecords) where
+  given : {r own : ℕ} → Fits s A q (child path) r → own ≡ packed (context s r) → (r < q) × Given s r own contexts
+  given (earlier, sorted) o = (
+    earlier,
+    record { whole = record { atoms = A; formed = w }; index = omega arith; sorted = sorted; word = o; size = size },
+  )
 
-    -- One child is a path, or both are.
-    one : {x : ℕ} → useA (kindAt s q) ≡ child path → (useB (kindAt s q) ≡ child path → ⊥) → x ≡ packed (context s (fieldA s q))
-        → Handed s q (set contexts (fieldA s q) x)
-    one {x} u v e =
-        handed-by (length-set contexts (fieldA s q) x ∙ h .size)
-        (λ _. getD-set-same contexts (fieldA s q) x 0 (omega (arith, first-small w l, h .size)) ∙ e) (λ t. absurd (v t))
-        (λ r f _. getD-set-other contexts (fieldA s q) r x 0 (f u))
+  first-given : {own : ℕ} → own ≡ packed (handed K true (fieldB s q) q (context s q))
+      → (fieldA s q < q) × Given s (fieldA s q) own contexts
+  first-given o =
+      let u : useA (kindAt s q) ≡ child path = rw e a in
+      given (rw u at (w .first q l)) (o ∙ ap packed (sym (rw e at (first-context w q l u))))
 
-    two : {x y : ℕ} → useA (kindAt s q) ≡ child path → useB (kindAt s q) ≡ child path → x ≡ packed (context s (fieldA s q))
-        → y ≡ packed (context s (fieldB s q)) → Handed s q (set (set contexts (fieldA s q) x) (fieldB s q) y)
-    two {x} {y} u v d e =
-        let a = fieldA s q in
-        let b = fieldB s q in
-        let mid = set contexts a x in
-        let same = length-set contexts a x in
-        handed-by (length-set mid b y ∙ same ∙ h .size)
-        (λ _.
-        getD-set-other mid b a y 0 (λ z. one-field w b q l (path, u, z) (path, v, refl))
-        ∙ getD-set-same contexts a x 0 (omega (arith, first-small w l, h .size)) ∙ d)
-        (λ _. getD-set-same mid b y 0 (omega (arith, second-small w l, h .size)) ∙ e)
-        (λ r f g. getD-set-other mid b r y 0 (g v) ∙ getD-set-other contexts a r x 0 (f u))
+  second-given : useB K ≡ child path → {own : ℕ} → own ≡ packed (handed K false (fieldB s q) q (context s q))
+      → (fieldB s q < q) × Given s (fieldB s q) own contexts
+  second-given b o =
+      let u : useA (kindAt s q) ≡ child path = rw e a in
+      let v : useB (kindAt s q) ≡ child path = rw e b in
+      given (rw v at (w .second q l)) (o ∙ ap packed (sym (rw e at (second-context w q l u v))))
 
-    -- ---- by the kind
-    -- The mode of its own context.
-    own-mode : sortOf (kindAt s q) ≡ path → getD contexts q 0 / 256 ≡ numberOf (modal (context s q .mode))
-    own-mode e = omega (arith, own e, continuation-record w q (path-before w q l e), w .few)
+-- The path of a modality.
+pub modal-part : {s : List ℕ} {A : ℕ} → WellFormed false s A → {q : ℕ} → q < count s → 3 ≤ kindByte s q → kindByte s q < 5
+    → {contexts : List ℕ} → length contexts ≡ mostRecords
+    → (fieldA s q < q) × Given s (fieldA s q) (256 * kindByte s q + fieldB s q) contexts
+unfolding handed columnsOf
+modal-part {s} w {q} l m n size =
+    first-given w l (modal-kind (kindByte s q) m n) refl size (rw (number-again (kindByte s q) m n))
 
-    pub modal-handed : 3 ≤ kindByte s q → kindByte s q < 5 → Handed s q (set contexts (fieldA s q) (256 * kindByte s q + fieldB s q))
-    unfolding handed columnsOf
-    modal-handed m n =
-        let k = modal-kind (kindByte s q) m n in
-        let c = rw k at (first-context w q l {σ = path} (rw k refl)) in
-        one (rw k refl) (λ z. let z : _≡_ {A = ℕ} 0 1 = cc in omega arith) (rw (c, mode-again (kindByte s q) m n))
+module _ {s : List ℕ} {p own : ℕ} {contexts : List ℕ} (g : Given s p own contexts) where
+  abbrev with-own : List ℕ
+  with-own = set contexts p own
 
-    pub star-handed : kindByte s q ≡ 10 → Handed s q (set contexts (fieldA s q) (256 * (getD contexts q 0 / 256) + q))
+  own-size : length with-own ≡ mostRecords
+  own-size = length-set contexts p own ∙ g .size
+
+  -- The mode of its own context.
+  own-mode : own / 256 ≡ modalNumber (context s p .mode)
+  own-mode =
+      let w = g .whole .formed in
+      omega (arith, g .word, continuation-record w p (path-before w p (g .index) (g .sorted)), w .few)
+
+  -- Its first part, once its own entry is stored,
+  pub choice-first : kindByte s p ≡ 8 → (fieldA s p < p) × Given s (fieldA s p) own with-own
+  unfolding handed kindOf kinds columnsOf
+  choice-first e = first-given (g .whole .formed) (g .index) {K = choice} (rw e) refl own-size (g .word)
+
+  pub sequence-first : kindByte s p ≡ 9 → (fieldA s p < p) × Given s (fieldA s p) (256 * (own / 256) + fieldB s p) with-own
+  unfolding handed kindOf kinds columnsOf
+  sequence-first e = first-given (g .whole .formed) (g .index) {K = sequence} (rw e) refl own-size (rw own-mode)
+
+  pub star-part : kindByte s p ≡ 10 → (fieldA s p < p) × Given s (fieldA s p) (256 * (own / 256) + p) with-own
+  unfolding handed kindOf kinds columnsOf
+  star-part e = first-given (g .whole .formed) (g .index) {K = star} (rw e) refl own-size (rw own-mode)
+
+  -- and its second, once the first is handed its own.
+  module _ {a : ℕ} {before mid : List ℕ} (x : Handed s a before mid) where
+    pub choice-second : kindByte s p ≡ 8 → (fieldB s p < p) × Given s (fieldB s p) own mid
     unfolding handed kindOf kinds columnsOf
-    star-handed e =
-        let c = rw e at (first-context w q l {σ = path} (rw e)) in
-        one (rw e) (λ z. star-second (kindByte s q) e path z) (rw (c, own-mode (rw e)))
+    choice-second e = second-given (g .whole .formed) (g .index) {K = choice} (rw e) refl (x .size) refl (g .word)
 
-    pub choice-handed : kindByte s q ≡ 8
-        → Handed s q (set (set contexts (fieldA s q) (getD contexts q 0)) (fieldB s q) (getD contexts q 0))
+    pub sequence-second : kindByte s p ≡ 9 → (fieldB s p < p) × Given s (fieldB s p) own mid
     unfolding handed kindOf kinds columnsOf
-    choice-handed e =
-        let c = rw e at (first-context w q l {σ = path} (rw e)) in
-        let d = rw e at (second-context w q l {σ = path} (rw e) {τ = path} (rw e)) in
-        two (rw e) (rw e) (rw c (own (rw e))) (rw d (own (rw e)))
+    sequence-second e = second-given (g .whole .formed) (g .index) {K = sequence} (rw e) refl (x .size) refl (g .word)
 
-    pub sequence-handed : kindByte s q ≡ 9
-        → Handed s q (set (set contexts (fieldA s q) (256 * (getD contexts q 0 / 256) + fieldB s q)) (fieldB s q) (getD contexts q 0))
-    unfolding handed kindOf kinds columnsOf
-    sequence-handed e =
-        let c = rw e at (first-context w q l {σ = path} (rw e)) in
-        let d = rw e at (second-context w q l {σ = path} (rw e) {τ = path} (rw e)) in
-        two (rw e) (rw e) (rw (c, own-mode (rw e))) (rw d (own (rw e)))
+  -- ---- what is entered
+  own-entered : Entered s with-own p
+  unfolding entryBy
+  own-entered =
+      getD-set-same contexts p own 0 (omega (arith, g .size, g .index, g .whole .formed .few)) ∙ rw (g .sorted) (g .word)
 
-    -- No other core kind has a path among its children.
-    pub none-handed : (kindByte s q < 3) ⊎ ((5 ≤ kindByte s q) × (kindByte s q < 8)) → Handed s q contexts
-    none-handed k =
-        let (a, b) = pathless (kindByte s q) k in
-        handed-by (h .size) (λ u. absurd (true≢false (sym (ap isPath u) ∙ a)))
-        (λ u. absurd (true≢false (sym (ap isPath u) ∙ b))) (λ r _ _. refl)
+  own-kept : (r : ℕ) → Entered s contexts r → Entered s with-own r
+  own-kept r h = elim (ℕ-discrete r p) [
+    | yes e ↦ rw e own-entered
+    | no d ↦ getD-set-other contexts p r own 0 d ∙ h
+  ]
 
--- ---- all records
--- A place after the last record counts as a formula.
-outside : {s : List ℕ} {A : ℕ} → WellFormed core s A → (r : ℕ) → count s ≤ r → sortOf (kindAt s r) ≡ formula
-unfolding kindOf kinds columnsOf
-outside {s} w r h = rw (List·getD-eq-default s 0 {n = recordSize * r} (omega (arith, w .whole)))
-
-module _ {s : List ℕ} (f : Formed s) where
-  pub handed-none : {q : ℕ} → q ≡ count s → Handed s q (replicate mostRecords 0)
-  handed-none e = record {
-    size = refl;
-    formulas = λ r _. zeros-at mostRecords r;
-    paths = λ r l p h. absurd (omega (arith, later (f .formed) r l p));
-  }
-
-  -- Once all are handed down, every entry is right.
-  pub handed-all : {contexts : List ℕ} → Handed s 0 contexts → contexts ≡ contextsOf s
-  unfolding contextsOf entryBy
-  handed-all {contexts} h =
-      ext-getD 0 contexts (contextsOf s) (h .size ∙ sym (length-tabulate mostRecords _))
-      (λ r l. sym (getD-tabulate mostRecords _ r (omega (arith, h .size)) ∙ go r (either-sort (sortOf (kindAt s r)))))
+  -- With its parts entered too, all of it is.
+  all-handed : {after : List ℕ} → length after ≡ mostRecords → ((r : ℕ) → Entered s with-own r → Entered s after r)
+      → (useA (kindAt s p) ≡ child path → (r : ℕ) → PathUnder s (fieldA s p) r → Entered s after r)
+      → (useB (kindAt s p) ≡ child path → (r : ℕ) → PathUnder s (fieldB s p) r → Entered s after r)
+      → Handed s p contexts after
+  all-handed {after} size kept a b = record { size = size; parts = go; kept = λ r h. kept r (own-kept r h) }
     where
-      go : (r : ℕ) → (sortOf (kindAt s r) ≡ formula) ⊎ (sortOf (kindAt s r) ≡ path)
-          → entryBy (sortOf (kindAt s r)) (packed (context s r)) ≡ getD contexts r 0
-      go r (inl e) = rw e (sym (h .formulas r e))
-      go r (inr e) = elim (le-or-lt (count s) r) [
-        | inl m ↦ absurd (differs (outside (f .formed) r m) e)
-        | inr m ↦ rw e (sym (h .paths r m e (omega arith)))
-      ]
+      go : (r : ℕ) → PathUnder s p r → Entered s after r
+      go r itself = kept p own-entered
+      go r (first e u) = a e r u
+      go r (second e u) = b e r u
+
+  -- A move or a test has no part that is a path,
+  pub none-handed : kindByte s p < 8 → Handed s p contexts with-own
+  none-handed l =
+      let (m, _) = path-number (g .whole .formed) p (g .index) (g .sorted) in
+      all-handed own-size (λ r h. h) (λ u. absurd (none-first (kindByte s p) (inr (m, l)) u))
+      (λ u. absurd (none-second (kindByte s p) l u))
+
+  -- a star has one,
+  pub one-handed : {after : List ℕ} → kindByte s p ≡ 10 → Handed s (fieldA s p) with-own after → Handed s p contexts after
+  one-handed e x = all-handed (x .size) (x .kept) (λ _. x .parts) (λ u. absurd (star-second (kindByte s p) e path u))
+
+  -- and a choice or a sequence two.
+  pub two-handed : {mid after : List ℕ} → Handed s (fieldA s p) with-own mid → Handed s (fieldB s p) mid after
+      → Handed s p contexts after
+  two-handed x y =
+      all-handed (y .size) (λ r h. y .kept r (x .kept r h)) (λ _ r u. y .kept r (x .parts r u)) (λ _. y .parts)

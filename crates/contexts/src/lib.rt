@@ -1,10 +1,9 @@
-// What each path stands under: the mode, which is its modality's kind, and the continuation, the record whose label continues it. A record
-// hands them to the paths among its children, the record number falling.
+// What each path stands under: the mode, which is its modality's kind, and the continuation, the record whose label continues it. Both go
+// down the path from its modality, the record number falling.
 ghost use mathlib.Core.Path.{_≡_};
 ghost use Prim.Native.Nat.{_+_, _*_, _/_, _%_, _<_};
-ghost use Rattle.meaning.specs.Record.{count};
 ghost use Rattle.paths.specs.Asking.{Formed};
-ghost use Rattle.contexts.specs.Contexts.{contextsOf, Handed};
+ghost use Rattle.contexts.specs.Contexts.{contextsOf, Given, Handed};
 use records::kind;
 use records::layout;
 
@@ -14,39 +13,45 @@ const MODE: u16 = 256;
 // The context of each path; 0 for each formula.
 pub type Contexts = [u16; layout::MOST_RECORDS];
 
-// Finds the contexts of all paths.
+// Finds the contexts of all paths: each diamond or box hands its own to its path.
 pub fn find_contexts(records: &[u8], contexts: &mut Contexts)
     requires { ⌜ Formed (now records) ⌝ }
     ensures { λ _. ⌜ now (contexts .exit) ≡ contextsOf (now (records .entry)) ⌝ }
 {
     *contexts = [0u16; layout::MOST_RECORDS];
-    let mut q = layout::record_count(records);
-    while 0 < q {
-        q -= 1;
-        hand_down(records, q, contexts);
+    let n = layout::record_count(records);
+    let mut q: usize = 0;
+    while q < n {
+        let kind = layout::kind_at(records, q);
+        match kind {
+            kind::DIAMOND | kind::BOX => {
+                let own = context(kind, layout::field_b(records, q));
+                hand_down(records, layout::field_a(records, q), own, contexts);
+            }
+            _ => {}
+        }
+        q += 1;
     }
 }
 
-// Stores the contexts of those children of record q that are paths; `contexts` has those of the children of later records.
-fn hand_down(records: &[u8], q: usize, contexts: &mut Contexts)
-    requires { ⌜ Formed (now records) × (q < count (now records)) × Handed (now records) (q + 1) (now contexts) ⌝ }
-    ensures { λ _. ⌜ Handed (now (records .entry)) q (now (contexts .exit)) ⌝ }
+// Stores path p's own context, and hands each of its parts the context that the part stands under.
+fn hand_down(records: &[u8], p: usize, own: u16, contexts: &mut Contexts)
+    requires { ⌜ Given (now records) p own (now contexts) ⌝ }
+    ensures { λ _. ⌜ Handed (now (records .entry)) p (now (contexts .entry)) (now (contexts .exit)) ⌝ }
 {
-    let kind = layout::kind_at(records, q);
-    let a = layout::field_a(records, q);
-    let b = layout::field_b(records, q);
-    let own = contexts[q];
-    match kind {
-        kind::DIAMOND | kind::BOX => contexts[a] = context(kind, b),
+    contexts[p] = own;
+    let a = layout::field_a(records, p);
+    let b = layout::field_b(records, p);
+    match layout::kind_at(records, p) {
         kind::CHOICE => {
-            contexts[a] = own;
-            contexts[b] = own;
+            hand_down(records, a, own, contexts);
+            hand_down(records, b, own, contexts);
         }
         kind::SEQUENCE => {
-            contexts[a] = context(mode(own), b);
-            contexts[b] = own;
+            hand_down(records, a, context(mode(own), b), contexts);
+            hand_down(records, b, own, contexts);
         }
-        kind::STAR => contexts[a] = context(mode(own), q),
+        kind::STAR => hand_down(records, a, context(mode(own), p), contexts),
         _ => {}
     }
 }
