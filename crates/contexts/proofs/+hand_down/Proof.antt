@@ -60,7 +60,7 @@ module _ (t : ℕ) where
       → kindByte (start k .args .records .now) (start k .args .p) ≡ n
   number k e = sym (k .kind-at .ensures) ∙ e
 
-  -- Both may continue a part.
+  -- The path and its second part may continue a part: both fit in a context's word.
   small : (k : of lts.After-kind-at) → (start k .args .p < 256) × (k .before .field-b .result < 256)
   small k =
       let g = start k .pre .1 in
