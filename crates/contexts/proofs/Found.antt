@@ -9,7 +9,7 @@ use native.Mathlib.Omega.{arith}
 use borrow.Author.Count.{below-more}
 use lib.ListN.{length, getD, replicate, List·getD-eq-default}
 use lib.Seq.{ext-getD}
-use Rattle.meaning.specs.Record.{mostRecords, recordSize, count, kindByte, kindAt, kindOf, kinds, fieldA, formula, path, sortOf}
+use Rattle.meaning.specs.Record.{core, mostRecords, recordSize, count, kindByte, kindAt, kindOf, kinds, fieldA, formula, path, sortOf}
 use Rattle.meaning.specs.Record.{child, useA, useB, parent, columnsOf}
 use Rattle.meaning.specs.WellFormed.{WellFormed}
 use Rattle.meaning.proofs.Bounds.{le-or-lt}
@@ -63,7 +63,7 @@ module _ {s contexts : List ℕ} {q : ℕ} (h : DoneBefore s q contexts) where
 
 -- ---- all records
 -- A place after the last record counts as a formula.
-outside : {s : List ℕ} {A : ℕ} → WellFormed false s A → (r : ℕ) → count s ≤ r → sortOf (kindAt s r) ≡ formula
+outside : {s : List ℕ} {A : ℕ} → WellFormed core s A → (r : ℕ) → count s ≤ r → sortOf (kindAt s r) ≡ formula
 unfolding kindOf kinds columnsOf
 outside {s} w r h = rw (List·getD-eq-default s 0 {n = recordSize * r} (omega (arith, w .whole)))
 

@@ -10,9 +10,9 @@ use native.Mathlib.Decide.{ℕ-discrete}
 use native.Mathlib.Omega.{arith}
 use lib.ListN.{length, set, length-set}
 use lib.Seq.{getD-set-same, getD-set-other}
-use Rattle.meaning.specs.Record.{Kind, choice, sequence, star, mostRecords, count, kindByte, kindAt, kindOf, kinds, fieldA, fieldB}
+use Rattle.meaning.specs.Record.{core, Kind, choice, sequence, star, mostRecords, count, kindByte, kindAt, kindOf, kinds, fieldA, fieldB}
 use Rattle.meaning.specs.Record.{formula, path, Use, unused, atomNumber, child, useA, useB, columnsOf}
-use Rattle.meaning.specs.Tree.{modalNumber}
+use Rattle.meaning.specs.Record.{numberOf, modal}
 use Rattle.meaning.specs.Translation.{handed, context}
 use Rattle.meaning.specs.WellFormed.{WellFormed, Fits}
 use Rattle.meaning.proofs.Climbing.{path-before, continuation-record, first-context, second-context}
@@ -44,12 +44,12 @@ unfolding kinds columnsOf
 none-second n l = no-path (stretch (λ K. isPath (useB K)) false 0 8 refl n (omega arith) l)
 
 -- ---- what parts stand under
-number-again : (n : ℕ) → 3 ≤ n → n < 5 → modalNumber (modeOf n) ≡ n
-unfolding modalNumber modeOf
+number-again : (n : ℕ) → 3 ≤ n → n < 5 → numberOf (modal (modeOf n)) ≡ n
+unfolding numberOf modeOf
 number-again n h l = elim (either-of 3 n h l) [ inl e ↦ rw e | inr e ↦ rw e ]
 
 -- The children of record q that are paths, by q's kind K.
-module _ {s : List ℕ} {A : ℕ} (w : WellFormed false s A) {q : ℕ} (l : q < count s) {K : Kind} (e : kindAt s q ≡ K)
+module _ {s : List ℕ} {A : ℕ} (w : WellFormed core s A) {q : ℕ} (l : q < count s) {K : Kind} (e : kindAt s q ≡ K)
     (a : useA K ≡ child path) {contexts : List ℕ} (size : length contexts ≡ mostRecords) where
   given : {r own : ℕ} → Fits s A q (child path) r → own ≡ packed (context s r) → (r < q) × Given s r own contexts
   given (earlier, sorted) o = (
@@ -71,7 +71,7 @@ module _ {s : List ℕ} {A : ℕ} (w : WellFormed false s A) {q : ℕ} (l : q < 
       given (rw v at (w .second q l)) (o ∙ ap packed (sym (rw e at (second-context w q l u v))))
 
 -- The path of a modality.
-pub modal-part : {s : List ℕ} {A : ℕ} → WellFormed false s A → {q : ℕ} → q < count s → 3 ≤ kindByte s q → kindByte s q < 5
+pub modal-part : {s : List ℕ} {A : ℕ} → WellFormed core s A → {q : ℕ} → q < count s → 3 ≤ kindByte s q → kindByte s q < 5
     → {contexts : List ℕ} → length contexts ≡ mostRecords
     → (fieldA s q < q) × Given s (fieldA s q) (256 * kindByte s q + fieldB s q) contexts
 unfolding handed columnsOf
@@ -86,7 +86,7 @@ module _ {s : List ℕ} {p own : ℕ} {contexts : List ℕ} (g : Given s p own c
   own-size = length-set contexts p own ∙ g .size
 
   -- The mode of its own context.
-  own-mode : own / 256 ≡ modalNumber (context s p .mode)
+  own-mode : own / 256 ≡ numberOf (modal (context s p .mode))
   own-mode =
       let w = g .whole .formed in
       omega (arith, g .word, continuation-record w p (path-before w p (g .index) (g .sorted)), w .few)

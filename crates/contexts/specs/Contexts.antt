@@ -11,12 +11,12 @@ use mathlib.Core.List.{List}
 use lib.ListN.{length, getD}
 use Rattle.meaning.specs.Run.{tabulate}
 use Rattle.meaning.specs.Record.{mostRecords, count, kindAt, fieldA, fieldB, Sort, formula, path, sortOf, child, useA, useB}
-use Rattle.meaning.specs.Tree.{modalNumber}
+use Rattle.meaning.specs.Record.{numberOf, modal}
 use Rattle.meaning.specs.Translation.{Context, context}
 use Rattle.paths.specs.Asking.{Formed}
 
 abbrev pub packed : Context → ℕ
-packed u = 256 * modalNumber (u .mode) + u .continuation
+packed u = 256 * numberOf (modal (u .mode)) + u .continuation
 
 unfoldable pub entryBy : Sort → ℕ → ℕ
 entryBy formula x = 0
