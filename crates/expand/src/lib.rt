@@ -19,7 +19,12 @@ pub fn expand(records: &[u8], atoms: u64, out: &mut [u8]) -> Counted
     ensures count { λ v. ⌜ v .count ≡ expandAnswer (now (records .entry)) atoms (length (now (out .entry))) .count ⌝ }
     ensures bytes { λ v. ⌜ now (out .exit) ≡ expandAfter (now (records .entry)) atoms (now (out .entry)) ⌝ }
 {
-    let refusal = refusal::formula_refusal(records, shapes::FULL, atoms, layout::MOST_ATOMS < atoms);
+    let refusal = refusal::formula_refusal(
+        records,
+        shapes::FULL,
+        atoms,
+        layout::MOST_ATOMS < atoms,
+    );
     if refusal != refusals::ACCEPTED {
         return Counted { refusal, count: 0 };
     }

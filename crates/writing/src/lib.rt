@@ -12,10 +12,10 @@ ghost use Rattle.rulings.specs.Rows.{rowsOf};
 ghost use Rattle.writing.specs.Appended.{Appended, rowWords, wordsIn};
 use contexts::Contexts;
 use records::layout;
+use rules::RULE_SIZE;
 use rulings::Labels;
 use rulings::Row;
 use rulings::Rows;
-use rules::RULE_SIZE;
 
 // How many rules the translation has.
 pub fn rule_count(records: &[u8], contexts: &Contexts) -> usize

@@ -16,8 +16,11 @@ mul-result : tie.Need-mul-result
 mul-result c =
     let one = c .before .before in
     let a = one .before .before .before .args in
-    omega (arith, one .before .wide .ensures,
-    mul-le-mul {n₁ = a .width} {m₁ = a .instants} {n₂ = a .most} {m₂ = mostInstants} (few one) (omega arith))
+    omega (
+      arith,
+      one .before .wide .ensures,
+      mul-le-mul {n₁ = a .width} {m₁ = a .instants} {n₂ = a .most} {m₂ = mostInstants} (few one) (omega arith),
+    )
 
 pub wrong-size-spec : {M : Type 1} → statement M
 unfolding ground8-cells
