@@ -30,7 +30,7 @@ static const struct records_case taken[] = {
     CASE(ACCEPTED, 0, "a star of a star", STEP, STAR(0), STAR(1), TRUE_, DIAMOND(2, 3)),
 };
 
-/* A formula of so many records, and further bytes. */
+/* A formula of stars, of a given number of records, and further bytes. */
 static void expect_number(const char *reason, size_t records, size_t more, int refusal)
 {
     struct formula f = {.n = 0};

@@ -198,7 +198,7 @@ impl Drawn<'_> {
         found
     }
 
-    /// So many rules: any ones, all holding, or all holding up to one that fails, with any ones after it.
+    /// A number of rules: any ones, all holding, or all holding up to one that fails, with any ones after it.
     fn rules(&mut self, n: usize) -> Vec<u16> {
         let hold = match self.random.below(10) {
             0 => 0,
@@ -402,7 +402,7 @@ impl Tried {
     fn judged(&self) -> bool {
         self.causes.is_empty()
     }
-    /// A yes to rules of which there are so many.
+    /// A yes to a given number of rules.
     fn yes(&self, rules: impl Fn(usize) -> bool) -> bool {
         self.verdict == Verdict::Yes && rules(self.input.count())
     }

@@ -68,7 +68,7 @@ fn rules_of(tree: &Tree, r: usize) -> Vec<[u16; RULE_SIZE]> {
         (CHOICE, true) => vec![every(&[x], &[a]), every(&[x], &[b]), every(&[a, b], &[x])],
         (STAR, false) => vec![every(&[x], &[c, a]), every(&[c], &[x]), every(&[a], &[x])],
         (STAR, true) => vec![every(&[x], &[c]), every(&[x], &[a]), every(&[c, a], &[x])],
-        _ => unreachable!("all kinds are told"),
+        _ => unreachable!("no other kind"),
     }
 }
 

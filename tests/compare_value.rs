@@ -38,7 +38,7 @@ type Relation = [Instants; MOST_INSTANTS];
 const NOWHERE: Relation = [[false; MOST_INSTANTS]; MOST_INSTANTS];
 
 /// What each record says of one trace. A formula's relation and a path's instants are empty and are never looked at.
-struct Told {
+struct Satisfied {
     holds: Vec<Instants>,
     leads: Vec<Relation>,
 }
@@ -106,17 +106,17 @@ fn stepped(instants: usize) -> Relation {
 }
 
 /// All of a path's ends satisfy the formula, seen in one trace.
-fn all_ends(told: &Told, path: usize, formula: usize, k: usize, instants: usize) -> bool {
-    (0..instants).all(|i| !told.leads[path][k][i] || told.holds[formula][i])
+fn all_ends(by: &Satisfied, path: usize, formula: usize, k: usize, instants: usize) -> bool {
+    (0..instants).all(|i| !by.leads[path][k][i] || by.holds[formula][i])
 }
 
 /// What every record says, of the given trace and of the total one. A child stands before its parent, so one pass is
 /// enough; the total trace comes first, because a box in the given one needs it (line 4).
-fn told(input: &Input) -> (Told, Told) {
+fn satisfied(input: &Input) -> (Satisfied, Satisfied) {
     let instants = input.instants as usize;
     let atoms = input.formula.atoms as usize;
-    let mut total = Told { holds: vec![], leads: vec![] };
-    let mut given = Told { holds: vec![], leads: vec![] };
+    let mut total = Satisfied { holds: vec![], leads: vec![] };
+    let mut given = Satisfied { holds: vec![], leads: vec![] };
     for r in 0..input.formula.count() {
         for trace in [Trace::Total, Trace::Given] {
             let here = if trace == Trace::Given { &given } else { &total };
@@ -168,9 +168,9 @@ fn told(input: &Input) -> (Told, Told) {
                 STAR => leads = repeated(&here.leads[a], instants),
                 _ => unreachable!("an accepted record has a core kind"),
             }
-            let told = if trace == Trace::Given { &mut given } else { &mut total };
-            told.holds.push(holds);
-            told.leads.push(leads);
+            let by = if trace == Trace::Given { &mut given } else { &mut total };
+            by.holds.push(holds);
+            by.leads.push(leads);
         }
     }
     (given, total)
@@ -211,7 +211,7 @@ fn expected(input: &Input) -> Expected {
     if refusal != Accepted {
         return Expected { refusal, value: 0, written: vec![] };
     }
-    let (given, total) = told(input);
+    let (given, total) = satisfied(input);
     let value = |r: usize, k: usize| match sort(&input.formula, r) {
         Sort::Formula => three_valued(given.holds[r][k], total.holds[r][k]),
         Sort::Path => 0,
@@ -223,7 +223,7 @@ fn expected(input: &Input) -> Expected {
 
 // ---- random inputs
 
-/// An input that is accepted, with a formula of so many records.
+/// An input that is accepted, with a formula of a given number of records.
 fn accepted_input(random: &mut Random, size: usize) -> Input {
     let tame = random.percent(20);
     let formula = random_formula(random, size, tame, 0);

@@ -17,7 +17,7 @@ static inline void count(int fine, const char *reason, const char *what, uint64_
     }
 }
 
-/* Tells both numbers; what main gives back. */
+/* Prints both numbers; what main gives back. */
 static inline int counts_told(void)
 {
     printf(TEST_NAME " in C: %d passed, %d failed\n", passed, failed);

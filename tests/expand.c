@@ -383,7 +383,7 @@ static void untils(void)
     expect_refusal("42 untils and a not: 256 records", bytes_of(&brief), ATOMS, PASTUREQUILL_TOO_LONG);
 }
 
-/* A next of so many core records. */
+/* A next over stars, of a given number of core records. */
 static struct formula next_of_stars(size_t records)
 {
     struct formula f = {.n = 0};

@@ -25,7 +25,7 @@ static inline size_t guarded_page(void)
     return (size_t)sysconf(_SC_PAGESIZE);
 }
 
-/* Pages of so many bytes, a multiple of a page's, with an untouchable page before and after them. */
+/* Pages of `size` bytes, a multiple of a page's, with an untouchable page before and after them. */
 static inline uint8_t *guarded_pages(size_t size)
 {
     size_t page = guarded_page();

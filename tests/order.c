@@ -77,7 +77,7 @@ static void expect_answer(const struct attempt *a, uint8_t refusal, uint64_t num
     expect(a, "number", number, a->refusal == PASTUREQUILL_ACCEPTED ? expected : 0);
 }
 
-/* So many bytes are written, which are not looked at, unless the input is refused. */
+/* The bytes that are written, which are not looked at, unless the input is refused. */
 static void expect_written(const struct attempt *a, const void *room, size_t size, size_t written)
 {
     expect_room(a->reason, room, size, (struct bytes){NULL, a->refusal == PASTUREQUILL_ACCEPTED ? written : 0});
@@ -160,7 +160,7 @@ static struct sizes sizes_by(int way, uint64_t width, uint64_t most, uint64_t in
     return s;
 }
 
-/* So many cells, the last of them perhaps wrong. */
+/* Cells that are 2, the last of them perhaps wrong. */
 static const uint8_t *cells_by(const struct attempt *a, size_t size)
 {
     static uint8_t cells[(PASTUREQUILL_MOST_COLUMNS + 1) * (MOST_INSTANTS + 1)];

@@ -16,7 +16,7 @@ pub fn random_instants(random: &mut Random) -> usize {
     }
 }
 
-/// One of four kinds of harm to the cells of rows of so many.
+/// One of four kinds of harm to the cells of a trace.
 pub fn damage_cells(random: &mut Random, cells: &mut Vec<u8>, width: u64, harm: usize) {
     match harm {
         0 => drop(cells.pop()),

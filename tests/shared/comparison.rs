@@ -40,7 +40,7 @@ pub struct Comparison {
 }
 
 impl Comparison {
-    /// Compares so many inputs, and tells the first that differ: `difference` counts what the input of a number is, and
+    /// Compares the inputs, and prints the first that differ: `difference` counts what the input of a number is, and
     /// says what is wrong with its outcome, if anything is, and what the input was.
     pub fn of(
         name: &'static str,
@@ -63,19 +63,19 @@ impl Comparison {
         comparison
     }
 
-    /// Each of the cases is due so many times.
+    /// How often each of the cases is due.
     pub fn require(&mut self, times: usize, names: impl IntoIterator<Item = String>) {
         self.missing.extend(names.into_iter().filter(|name| self.seen.times(name) < times));
     }
 
-    /// The same, and tells how often each came up.
+    /// The same, and prints how often each came up.
     pub fn tell(&mut self, times: usize, names: Vec<String>) {
-        let told: Vec<String> = names.iter().map(|name| format!("{name}: {}", self.seen.times(name))).collect();
-        println!("{}: {}", self.name, told.join("; "));
+        let times: Vec<String> = names.iter().map(|name| format!("{name}: {}", self.seen.times(name))).collect();
+        println!("{}: {}", self.name, times.join("; "));
         self.require(times, names);
     }
 
-    /// Tells what was tried too seldom, and both numbers. Ends the program where something failed or is missing.
+    /// Prints what was tried too seldom, and both numbers. Ends the program where something failed or is missing.
     pub fn end(self, compared: &str) {
         if !self.missing.is_empty() {
             println!("{}: tried too seldom: {}", self.name, self.missing.join("; "));

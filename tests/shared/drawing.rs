@@ -57,7 +57,7 @@ struct Node {
     children: Vec<usize>,
 }
 
-/// Where tame is asked for, all stars are such that translation takes them. Of a hundred formulas so many are
+/// Where tame is asked for, all stars are such that translation takes them. Of a hundred formulas this many are
 /// shorthands.
 struct Grower<'a> {
     random: &'a mut Random,
@@ -85,7 +85,7 @@ impl Grower<'_> {
         (first, whole - first)
     }
 
-    /// A formula of so many records; without shorthands there is none of two.
+    /// A formula of a given number of records; without shorthands there is none of two.
     fn formula(&mut self, size: usize) -> usize {
         if self.shorthands > 0 && (size == 2 || self.random.percent(self.shorthands)) {
             return self.shorthand(size);
@@ -108,7 +108,7 @@ impl Grower<'_> {
         self.add(kind, 0, vec![path, end])
     }
 
-    /// A formula of so many records, the last of them a shorthand.
+    /// A formula of a given number of records, the last of them a shorthand.
     fn shorthand(&mut self, size: usize) -> usize {
         if size == 1 {
             let kind = self.random.pick(SHORTHANDS[0]);
@@ -125,7 +125,7 @@ impl Grower<'_> {
         self.add(kind, 0, vec![f, g])
     }
 
-    /// A path of so many records. One that must move is not of two: such a path is a test or a star.
+    /// A path of a given number of records. One that must move is not of two: such a path is a test or a star.
     fn path(&mut self, size: usize, way: Way) -> usize {
         if size == 1 {
             let kind = self.move_within(way);
@@ -210,7 +210,7 @@ fn laid_out(random: &mut Random, nodes: &[Node], root: usize) -> Vec<u8> {
     records.concat()
 }
 
-/// A formula of so many records, over any number of atoms.
+/// A formula of a given number of records, over any number of atoms.
 pub fn random_formula(random: &mut Random, size: usize, tame: bool, shorthands: usize) -> Formula {
     let atoms = match random.below(10) {
         0 => 0,
@@ -221,7 +221,7 @@ pub fn random_formula(random: &mut Random, size: usize, tame: bool, shorthands: 
     formula_over(random, size, tame, shorthands, atoms)
 }
 
-/// A formula of so many records, over so many atoms.
+/// A formula of `records` records, over `atoms` atoms.
 pub fn formula_over(random: &mut Random, size: usize, tame: bool, shorthands: usize, atoms: usize) -> Formula {
     let habit = random.pick(&HABITS);
     let mut grower = Grower { random: &mut *random, habit, tame, shorthands, atoms, nodes: vec![] };

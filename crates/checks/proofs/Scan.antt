@@ -25,7 +25,7 @@ module _ (ℓ : Language) (s : List ℕ) (A : ℕ) where
   unfolding treeGrounds
   tree-record e q = e ∙ sym (found-stop _ _ (λ z. q (e ∙ z)))
 
-  -- After clear records, where t tells the last record's sort.
+  -- After clear records, where t is the last record's sort.
   pub record Past (t : ℕ) : Type 0 where
     pub last : (t ≡ 2 → ⊥) → 6 ≡ firstOf (treeGrounds ℓ s A)
     pub places : t ≡ 2 → firstOf (each (pred (count s)) (λ r. ground7 s r ∷ [])) ≡ firstOf (treeGrounds ℓ s A)

@@ -8,7 +8,7 @@ use records::kind;
 use records::layout;
 
 // ---- a step is a byte
-// One that writes a record has the record's kind for its low digit, and the high digit tells the children: 0 is two, 1 is one, 2 is none.
+// One that writes a record has the record's kind for its low digit, and the high digit says how many children it has: 0 is two, 1 is one, 2 is none.
 const ONE_CHILD: u8 = 0x10;
 
 const NO_CHILD: u8 = 0x20;

@@ -9,7 +9,7 @@ use lib.Dec.{leb}
 use borrow.Author.Tests.{leb-true, leb-false, ne-eqb}
 use Rattle.meaning.specs.Three.{imp, negation}
 
--- An implication is told by comparing its two sides.
+-- An implication by comparing its two sides.
 pub by-comparison : (u v : ℕ) → ((u ≤ v) × (imp u v ≡ 2)) ⊎ ((v < u) × (imp u v ≡ v))
 unfolding imp
 by-comparison u v = go (leb u v) refl

@@ -1,6 +1,6 @@
 -- One order for diamond and box: up to a, x is within y if it is at most y under a diamond, and at least y under a
 -- box. A row of a modality is within y exactly if, at each instant and up to what the path is worth there, the
--- continuation is. That tells the row, so that a law of rows, for either mode, is one of numbers at each instant.
+-- continuation is. That determines the row, so that a law of rows, for either mode, is one of numbers at each instant.
 use Prim.Native.Nat.{ℕ, zero, suc, _≤_, _<_, min, max}
 use mathlib.Core.Path.{_≡_}
 use mathlib.Core.Logic.{_↔_, Iff·trans, inl, inr}
@@ -101,45 +101,45 @@ within-row box L p c k a y = (
   λ h. le-least L _ _ (omega arith) (λ j l. imp-intro _ (p k j) (c j) (omega arith) (omega (arith, h j l))),
 )
 
--- ---- a number is told by what it is within
+-- ---- a number is the one that is within the same numbers
 -- Under a diamond any number is, under a box any value.
-pub Fits : Mode → ℕ → Type 0
-Fits diamond x = Unit {0}
-Fits box x = x ≤ 2
+pub Bounded : Mode → ℕ → Type 0
+Bounded diamond x = Unit {0}
+Bounded box x = x ≤ 2
 
 -- Two that are within the same numbers are equal.
-same-within : (m : Mode) (x z : ℕ) → Fits m x → Fits m z → ((a y : ℕ) → Within m a x y ↔ Within m a z y) → x ≡ z
-unfolding Within Fits
+same-within : (m : Mode) (x z : ℕ) → Bounded m x → Bounded m z → ((a y : ℕ) → Within m a x y ↔ Within m a z y) → x ≡ z
+unfolding Within Bounded
 same-within diamond x z _ _ h =
     le-antisymm (omega (arith, h x z .1 (omega arith))) (omega (arith, h z x .0 (omega arith)))
 same-within box x z b d h =
     le-antisymm (omega (arith, h x x .0 (omega arith))) (omega (arith, h z z .1 (omega arith)))
 
 -- Rows, joins, gates and edges are such numbers.
-pub fits-row : (m : Mode) (L : ℕ) (p : Square) (c : Row) (k : ℕ) → Fits m (modalRow m L p c k)
-unfolding Fits modalRow boxRow
+pub fits-row : (m : Mode) (L : ℕ) (p : Square) (c : Row) (k : ℕ) → Bounded m (modalRow m L p c k)
+unfolding Bounded modalRow boxRow
 fits-row diamond L p c k = tt
 fits-row box L p c k = least-bound L _
 
-pub fits-joined : (m : Mode) (u v : ℕ) → Fits m u → Fits m v → Fits m (joined m u v)
-unfolding Fits joined
+pub fits-joined : (m : Mode) (u v : ℕ) → Bounded m u → Bounded m v → Bounded m (joined m u v)
+unfolding Bounded joined
 fits-joined diamond u v f g = tt
 fits-joined box u v f g = omega arith
 
-pub fits-gate : (m : Mode) (u v : ℕ) → v ≤ 2 → Fits m (gate m u v)
-unfolding Fits gate
+pub fits-gate : (m : Mode) (u v : ℕ) → v ≤ 2 → Bounded m (gate m u v)
+unfolding Bounded gate
 fits-gate diamond u v b = tt
 fits-gate box u v b = imp-bound u v b
 
-pub fits-edge : (m : Mode) → Fits m (edge m)
-unfolding Fits edge
+pub fits-edge : (m : Mode) → Bounded m (edge m)
+unfolding Bounded edge
 fits-edge diamond = tt
 fits-edge box = le-refl 2
 
 pub ruleset fits = (fits-row, fits-joined, fits-gate, fits-edge)
 
 -- So a row is the number that is within y exactly if all its gates are.
-pub row-is : (m : Mode) (L : ℕ) (p : Square) (c : Row) (k x : ℕ) → Fits m x →
+pub row-is : (m : Mode) (L : ℕ) (p : Square) (c : Row) (k x : ℕ) → Bounded m x →
     ((a y : ℕ) → ((j : ℕ) → j < L → Within m (min a (p k j)) (c j) y) ↔ Within m a x y) → modalRow m L p c k ≡ x
 row-is m L p c k x f h =
     same-within m _ x (fits-row m L p c k) f (λ a y. Iff·trans (within-row m L p c k a y) (h a y))

@@ -28,7 +28,7 @@ choiceSquare p q k j = max (p k j) (q k j)
 unfoldable pub sequenceSquare : ℕ → Square → Square → Square
 sequenceSquare L p q k j = greatest L (λ i. min (p k i) (q i j))
 
--- So many passes.
+-- n passes.
 unfoldable pub passes : ℕ → Square → ℕ → Square
 passes L p zero = λ k j. cond (eqb j k) 2 0
 passes L p (suc n) = sequenceSquare L p (passes L p n)

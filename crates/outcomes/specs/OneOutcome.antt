@@ -1,4 +1,4 @@
--- No two outcomes fit: a public function's contract tells its whole answer, and all that it leaves in each buffer that it is lent.
+-- No two outcomes fit: a public function's contract says its whole answer, and all that it leaves in each buffer that it is lent.
 -- A function's `Reads.Post` is the `ensures` of its source as plain facts, and its `Kinds`, ps and r, are the types of its parameters
 -- and its answer, so these theorems are about the contracts themselves. κs are the lifetimes of what is lent. That some outcome fits
 -- is the function's own proof.

@@ -1,5 +1,5 @@
--- A square tells a relation of instants, that of being worth at least v, and a row a set of them; v is 1 or 2. What
--- the specification makes of squares and rows tells what definition 1 of source 004 makes of relations and sets: v is at most
+-- A square stands for a relation of instants, that of being worth at least v, and a row for a set of them; v is 1 or 2. What
+-- the specification makes of squares and rows stands for what definition 1 of source 004 makes of relations and sets: v is at most
 -- a greatest exactly if it is at most some member, and at most a least exactly if it is at most each. A box asks up to v
 -- and up to 1, and so does an implication of values.
 use Prim.Native.Nat.{ℕ, zero, suc, _<_, _≤_, max}
@@ -72,7 +72,7 @@ module _ (L v : ℕ) (z : 0 < v) (y : v ≤ 2) where
       member : v ≤ boxRow L p f k → (j : ℕ) → j < L → (v ≤ p k j → v ≤ f j) × (1 ≤ p k j → 1 ≤ f j)
       member a j m = imp-level v (p k j) (f j) z y (low j) .1 (le-trans a (least-member L _ j m))
 
-  -- Box: two relations and two sets, told by v and by 1.
+  -- Box: two relations and two sets, at v and at 1.
   pub box-level : {R R₁ : Relation} {S S₁ : ℕ → Type 0} (p : Square) (f : Row) → Level L v R p → LevelRow L v S f
       → Level L 1 R₁ p → LevelRow L 1 S₁ f → ((k j : ℕ) → k < L → p k j ≤ 2)
       → LevelRow L v (λ k. ((j : ℕ) → R k j → S j) × ((j : ℕ) → R₁ k j → S₁ j)) (boxRow L p f)
@@ -132,7 +132,7 @@ module _ (L v : ℕ) (z : 0 < v) (y : v ≤ 2) where
         (i, t k i .1 (l, o, a), u i j .1 (o, m, b)),
   )
 
-  -- So many passes of a star.
+  -- n passes of a star.
   times-level : {R : Relation} (p : Square) → Level L v R p → (n : ℕ) → Level L v (Times L R n) (passes L p n)
   unfolding Times passes
   times-level p t zero = λ k j. (

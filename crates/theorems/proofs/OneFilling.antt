@@ -1,5 +1,5 @@
 -- A filling meets the rules exactly if its labels are the right ones. There is such a filling, its rows laid out by a
--- rule; and a filling is told by its labels, since its other cells are the trace's. The rule that asserts the whole
+-- rule; and a filling is known by its labels, since its other cells are the trace's. The rule that asserts the whole
 -- formula asks that the last record's label be 2 at the first instant, and the last record is a formula.
 use Prim.Native.Nat.{ℕ, pred, _+_, _*_, _-_, _≤_, _<_}
 use mathlib.Core.Path.{_≡_, refl, sym, _∙_}

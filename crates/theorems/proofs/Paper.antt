@@ -118,7 +118,7 @@ worth-there g (no x) (yes y) = (λ _ e. omega arith, λ _. y)
 worth-there g (no x) (no y) = (λ b. absurd (y b), λ e. absurd (e refl))
 
 -- ---- powers
--- A relation so many times is what a power relates.
+-- A relation n times is what a power relates.
 times-power : (L : ℕ) (M : HereThere) (p : Path) (n k j : ℕ)
     → Times L (Relates L M p) n k j ↔ Relates L M (power p n) k j
 unfolding Times Satisfies Relates power

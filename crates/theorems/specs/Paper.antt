@@ -37,7 +37,7 @@ module _ (L : ℕ) where
   abbrev pub Next : Relation
   Next k j = (j ≡ k + 1) × (j < L)
 
-  -- A relation so many times, one after another; no time at all stays at an instant.
+  -- A relation n times, one after another; no time at all stays at an instant.
   unfoldable pub Times : Relation → ℕ → Relation
   Times R zero k j = (k < L) × (j ≡ k)
   Times R (suc n) k j = Then R (Times R n) k j

@@ -22,7 +22,7 @@ named-under s q p (inl (σ, e, f)) = first {q = q} σ e (rw f itself)
 named-under s q p (inr (σ, e, f)) = second {q = q} σ e (rw f itself)
 
 module _ {ℓ : Language} {s : List ℕ} {A : ℕ} (w : WellFormed ℓ s A) where
-  -- In so many steps from parent to parent.
+  -- In n steps from parent to parent.
   climb : (m q : ℕ) → q < count s → count s ≤ q + m → Under s (pred (count s)) q
   climb zero q l h = absurd (omega arith)
   climb (suc m) q l h = elim (le-or-lt (count s) (suc q)) [

@@ -1,4 +1,4 @@
--- `steps::part_of` meets its contract: the step tells which field.
+-- `steps::part_of` meets its contract: the step says which field.
 use borrow.Author.Needs.{needs}
 use borrow.Author.Tests.{eq-eqb, ne-eqb}
 use Rattle.expand.specs.Steps.{partA, partOf}
