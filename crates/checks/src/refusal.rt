@@ -39,7 +39,7 @@ fn one_more(count: u8) -> u8
     2
 }
 
-// The first of 3 to 6 that applies to a field of record r: u says what the field holds, and v is what stands in it. If none does, its
+// The first of 3 to 6 that applies to a field of record r: u says what the field is for, and v is what it holds. If none does, its
 // child is counted.
 fn field_refusal(s: &[u8], atoms: u64, counts: &mut Counts, r: usize, u: u8, v: usize) -> u8
     requires { ⌜ (r < count (now s)) × (count (now s) ≤ mostRecords) × (u ≤ 3) × (length (now counts) ≡ mostRecords) ⌝ }

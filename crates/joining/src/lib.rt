@@ -96,7 +96,7 @@ fn follow_move(kind: u8, s: &mut Square, l: usize)
     }
 }
 
-// Where the first value of a row stands after a step, and where its second one stands after a back step.
+// Where the first value of a row goes by a step, and where its second one goes by a back step.
 fn shift_of(kind: u8) -> usize
     ensures { λ d. ⌜ d ≡ shiftOf (wayOf kind) ⌝ }
 {

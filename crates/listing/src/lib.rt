@@ -89,7 +89,7 @@ fn wide(w: u16) -> u64
     w as u64
 }
 
-// What stands after word j of a rule.
+// What comes after word j of a rule.
 fn gap(j: usize) -> u8
     ensures { λ b. ⌜ b ≡ Printed·gap j ⌝ }
 {

@@ -1,4 +1,4 @@
--- Lists that are laid out by a rule, and what stands in a lent buffer.
+-- Lists that are laid out by a rule, and what a lent buffer holds.
 --   each n f          the lists f 0, f 1 .. f (n - 1), end to end
 --   tabulate n f      the numbers f 0, f 1 .. f (n - 1)
 --   written new old   the buffer `old` with `new` at its start and the rest as it was

@@ -1,4 +1,4 @@
-// Rows of a path's square. A square is one array, WIDTH bytes to a row: the value from k to j stands at k * WIDTH + j. A row is copied into a
+// Rows of a path's square. A square is one array, WIDTH bytes to a row: the value from k to j is at k * WIDTH + j. A row is copied into a
 // local, changed there and put back, so the compiler sees that it is no part of the square and makes a vector instruction or two of each loop.
 ghost use mathlib.Core.Path.{_≡_};
 ghost use Prim.Native.Nat.{_+_, _<_, _≤_};

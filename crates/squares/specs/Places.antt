@@ -1,5 +1,5 @@
--- Where the value of a move stands, and what a test before a path leaves.
---   nextCell w    how far after the diagonal's place the value of a move stands
+-- Where the value of a move is, and what a test before a path leaves.
+--   nextCell w    how far after the diagonal's place the value of a move is
 --   capped f p    p from k to j, but no more than f k
 use Prim.Native.Nat.{ℕ, min}
 use Rattle.meaning.specs.Record.{Way, ahead, back}

@@ -14,7 +14,7 @@ use rows::Square;
 use rows::WIDTH;
 
 // ---- moves and tests: a diagonal each
-// How far after k * DIAGONAL the value of a move stands: a step leads from k to k + 1, a back step from k + 1 to k.
+// How far after k * DIAGONAL the value of a move is: a step leads from k to k + 1, a back step from k + 1 to k.
 fn next_cell(kind: u8) -> usize
     ensures { λ d. ⌜ d ≡ nextCell (wayOf kind) ⌝ }
 {
