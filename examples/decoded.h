@@ -21,7 +21,7 @@ static inline const char *refusal_name(uint8_t refusal)
     return names[refusal];
 }
 
-/* ---- records of core kinds, over atoms of so many names */
+/* ---- records of core kinds, over atoms with names */
 struct names {
     const char *const *atoms;
     int count;
@@ -30,8 +30,9 @@ struct names {
 static inline void print_record(const uint8_t *records, size_t r, struct names names)
 {
     const uint8_t *record = records + r * PASTUREQUILL_RECORD_SIZE;
-    int a = record[2], b = record[4]; /* the low bytes of the fields, whose high bytes are 0 in a formula */
-    switch (record[0]) {
+    /* The high bytes of the fields are 0 in a formula. */
+    int a = record[PASTUREQUILL_FIELD_A], b = record[PASTUREQUILL_FIELD_B];
+    switch (record[PASTUREQUILL_KIND]) {
     case PASTUREQUILL_FALSE: printf("false"); break;
     case PASTUREQUILL_TRUE: printf("true"); break;
     case PASTUREQUILL_ATOM: printf("%s", names.atoms[a]); break;

@@ -12,8 +12,7 @@ enum {
     MOST_BYTES = PASTUREQUILL_MOST_RECORD_BYTES
 };
 
-/* Where the kind is in a record, the zero byte, and the low bytes of the fields; their high bytes follow. */
-enum { KIND = 0, ZERO = 1, FIELD_A = 2, FIELD_B = 4, HIGH = 1 };
+enum { KIND = PASTUREQUILL_KIND, ZERO = PASTUREQUILL_ZERO, FIELD_A = PASTUREQUILL_FIELD_A, FIELD_B = PASTUREQUILL_FIELD_B, HIGH = 1 };
 
 static inline uint8_t kind_of(const uint8_t *records, size_t r) { return records[RECORD_SIZE * r + KIND]; }
 

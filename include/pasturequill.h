@@ -41,6 +41,9 @@ extern "C" {
 /* The number of the last change request that is in this edition. */
 enum { PASTUREQUILL_EDITION = 0 };
 
+/* ---- a record's bytes: where its kind is, its zero byte, and the low bytes of its fields, whose high bytes follow */
+enum { PASTUREQUILL_KIND = 0, PASTUREQUILL_ZERO = 1, PASTUREQUILL_FIELD_A = 2, PASTUREQUILL_FIELD_B = 4 };
+
 /* ---- sizes */
 enum {
     PASTUREQUILL_RECORD_SIZE = 6,    /* bytes of one record */
