@@ -70,8 +70,8 @@ impl Comparison {
 
     /// The same, and prints how often each came up.
     pub fn tell(&mut self, times: usize, names: Vec<String>) {
-        let times: Vec<String> = names.iter().map(|name| format!("{name}: {}", self.seen.times(name))).collect();
-        println!("{}: {}", self.name, times.join("; "));
+        let lines: Vec<String> = names.iter().map(|name| format!("{name}: {}", self.seen.times(name))).collect();
+        println!("{}: {}", self.name, lines.join("; "));
         self.require(times, names);
     }
 
