@@ -1,4 +1,4 @@
--- Specification, Numbers given back: each reason to refuse as a plain fact, the number that it gives, and which comes before which.
+-- Specification, Refusals: each reason to refuse as a plain fact, the number that it gives, and which comes before which.
 --   Reason                the reasons; r is the record, i the rule or the cell, that a reason is about
 --   given ρ               the number that is given back for it
 --   Before σ ρ            σ comes before ρ
@@ -14,11 +14,11 @@ use lib.ListN.{length, getD}
 use Rattle.meaning.specs.Record.{Language, core, full, known, recordSize, mostRecords, count, zeroByte, fieldA, fieldB, kindAt, star, Sort, path, sortOf}
 use Rattle.meaning.specs.Record.{Use, unused, atomNumber, child, useA, useB, places, ahead, back}
 use Rattle.meaning.specs.Formula.{mayStand, goes}
-use Rattle.meaning.specs.Tree.{formAt, pathAt, formSize}
+use Rattle.meaning.specs.Tree.{pathAt}
 use Rattle.meaning.specs.Rule.{ruleSize, ruleWord, symbolOf, isPrevious}
 use Rattle.meaning.specs.Translation.{ruleSum}
 use Rattle.meaning.specs.Judge.{ruleCount}
-use Rattle.meaning.specs.Refusal.{mostAtoms, mostInstants, mostColumns, mostRules}
+use Rattle.meaning.specs.Refusal.{mostAtoms, mostInstants, mostColumns, mostRules, wholeForm}
 
 -- ---- the reasons
 pub data Reason : Type 0 where
@@ -128,14 +128,10 @@ module _ (ℓ : Language) (s : List ℕ) (A : ℕ) where
 abbrev pub CheckRefused : List ℕ → ℕ → Reason → Type 0
 CheckRefused s A = FormulaRefused core s A (mostAtoms < A)
 
--- How many records the whole formula takes with its shorthands written out.
-abbrev pub longSize : List ℕ → ℕ
-longSize s = formSize (formAt s (pred (count s)))
-
 abbrev pub ExpandRefused : List ℕ → ℕ → ℕ → Reason → Type 0
 ExpandRefused s A room ρ =
     FormulaRefused full s A (mostAtoms < A) ρ
-    ⊎ (tooLong when (mostRecords < longSize s)) ρ ⊎ (noRoom when (room < recordSize * longSize s)) ρ
+    ⊎ (tooLong when (mostRecords < wholeForm s)) ρ ⊎ (noRoom when (room < recordSize * wholeForm s)) ρ
 
 abbrev pub ValueRefused : List ℕ → ℕ → ℕ → List ℕ → ℕ → Reason → Type 0
 ValueRefused s A L cells room ρ =

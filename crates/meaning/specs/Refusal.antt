@@ -161,6 +161,7 @@ unfoldable pub ground14 : ℕ → Ground
 ground14 n = ground 14 (ltb mostRecords n)
 
 -- ---- the orders
+-- How many records the whole formula takes with its shorthands written out.
 abbrev pub wholeForm : List ℕ → ℕ
 wholeForm s = formSize (formAt s (pred (count s)))
 
