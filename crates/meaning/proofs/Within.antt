@@ -61,20 +61,28 @@ min-greatest L f a y h = le-above _ _ (λ v z b.
     let (i, l, d) = greatest-reached L f v z (omega arith) in
     omega (arith, h i l))
 
+swapped : (a b d y : ℕ) → min (min a b) d ≤ y → min (min a d) b ≤ y
+swapped a b d y h = omega arith
+
 -- Up to the greatest of many: up to each.
 pub within-greatest : (m : Mode) (L : ℕ) (f : Row) (a x y : ℕ) →
     Within m (min a (greatest L f)) x y ↔ ((i : ℕ) → i < L → Within m (min a (f i)) x y)
 within-greatest m L f a x y = (λ h i l. within-less m _ _ x y (omega (arith, greatest-member L f i l)) h, each m)
   where
     each : (m : Mode) → ((i : ℕ) → i < L → Within m (min a (f i)) x y) → Within m (min a (greatest L f)) x y
-    each diamond h = unfold Within in omega (arith, min-greatest L f (min a x) y (λ i l. omega (arith, h i l)))
-    each box h = unfold Within in omega (arith, min-greatest L f (min a (min 2 y)) x (λ i l. omega (arith, h i l)))
+    each diamond h = unfold Within in swapped a x _ y (min-greatest L f (min a x) y (λ i l. swapped a (f i) x y (h i l)))
+    each box h =
+        unfold Within in
+        swapped a (min 2 y) _ x (min-greatest L f (min a (min 2 y)) x (λ i l. swapped a (f i) (min 2 y) x (h i l)))
+
+least-of-two : (t u v : ℕ) → t ≤ min u v ↔ (t ≤ u × t ≤ v)
+least-of-two t u v = (omega arith, omega arith)
 
 -- A join is within y if both are.
 pub within-joined : (m : Mode) (a u v y : ℕ) → Within m a (joined m u v) y ↔ (Within m a u y × Within m a v y)
 unfolding Within joined
 within-joined diamond a u v y = (omega arith, omega arith)
-within-joined box a u v y = (omega arith, omega arith)
+within-joined box a u v y = least-of-two (min a (min 2 y)) u v
 
 -- A gate is within y if, up to its test, what is after it is.
 pub within-gate : (m : Mode) (a u v y : ℕ) → Within m a (gate m u v) y ↔ Within m (min a u) v y
