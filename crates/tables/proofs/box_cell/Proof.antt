@@ -1,6 +1,6 @@
 -- `box_cell` meets its contract: `least` is the least of the first j values.
-use Prim.Native.Nat.{_-_, _≤_}
-use mathlib.Core.Path.{_≡_, refl, _∙_}
+use Prim.Native.Nat.{_-_, _≤_, min}
+use mathlib.Core.Path.{_≡_, refl, _∙_, ap₂}
 use native.Mathlib.Omega.{arith}
 use borrow.Author.Needs.{needs}
 use Rattle.meaning.specs.Three.{least}
@@ -23,7 +23,7 @@ loop-holds c = (search needs, refl)
 loop-again : tie.Need-loop-again Inv-loop μ-loop
 unfolding boxRow
 loop-again c =
-    (omega arith, c .lesser .ensures ∙ rw (least-more (c .before .before .before .before .before .loop .j)) (cc))
+    (omega arith, c .lesser .ensures ∙ rw (least-more (c .before .before .before .before .before .loop .j)) (ap₂ min (c .before .before .before .before .before .loop .inv .1) (c .before .imp .ensures)))
 
 returns : tie.Need-returns Inv-loop μ-loop
 returns c =

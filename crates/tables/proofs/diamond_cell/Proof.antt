@@ -1,6 +1,6 @@
 -- `diamond_cell` meets its contract: `most` is the greatest of the first j values.
-use Prim.Native.Nat.{_-_, _≤_}
-use mathlib.Core.Path.{_≡_, refl, _∙_}
+use Prim.Native.Nat.{_-_, _≤_, max}
+use mathlib.Core.Path.{_≡_, refl, _∙_, ap₂}
 use native.Mathlib.Omega.{arith}
 use borrow.Author.Needs.{needs}
 use Rattle.meaning.specs.Three.{greatest}
@@ -23,7 +23,7 @@ loop-holds c = (search needs, refl)
 loop-again : tie.Need-loop-again Inv-loop μ-loop
 unfolding diamondRow
 loop-again c =
-    (omega arith, c .greater .ensures ∙ rw (greatest-more (c .before .before .before .before .before .loop .j)) (cc))
+    (omega arith, c .greater .ensures ∙ rw (greatest-more (c .before .before .before .before .before .loop .j)) (ap₂ max (c .before .before .before .before .before .loop .inv .1) (c .before .lesser .ensures)))
 
 returns : tie.Need-returns Inv-loop μ-loop
 returns c =
