@@ -2,8 +2,8 @@
 #ifndef CASES_H
 #define CASES_H
 
-#include "formula.h"
 #include "tables.h"
+#include "written.h"
 
 /* One record; Z has something in its zero byte. */
 #define R(kind, a, b) Z(kind, 0, a, b)
@@ -27,9 +27,24 @@
 #define RECORDS(...) \
     {(const uint8_t[][RECORD_SIZE]){__VA_ARGS__}[0], sizeof((const uint8_t[][RECORD_SIZE]){__VA_ARGS__})}
 
-static inline struct bytes bytes_of(const struct formula *f)
+static inline struct bytes bytes_of(const struct formula *f) { return (struct bytes){f->records, size_of(f)}; }
+
+/* A formula in a table: as it is written over p, q and r, or record by record. */
+struct source {
+    const char *written;
+    struct bytes listed;
+};
+
+#define F(text) {text, NONE}
+#define LISTED(...) {NULL, RECORDS(__VA_ARGS__)}
+
+/* Its records; those of a written one are put into this room. */
+static inline struct bytes records_of(const struct source *s, struct formula *room)
 {
-    return (struct bytes){f->records, size_of(f)};
+    if (s->written == NULL)
+        return s->listed;
+    *room = written("pqr", s->written);
+    return bytes_of(room);
 }
 
 /* Records of one field on top of each other, so many. */
@@ -59,10 +74,10 @@ struct records_case {
 
 typedef void expect_records(const char *reason, struct bytes records, uint64_t atoms, int refusal);
 
-static inline void expect_each(const struct records_case *cases, size_t n, expect_records *expect)
+static inline void expect_each(const struct records_case *cases, const struct records_case *end, expect_records *expect)
 {
-    for (size_t i = 0; i < n; i++)
-        expect(cases[i].reason, cases[i].records, cases[i].atoms, cases[i].refusal);
+    for (const struct records_case *c = cases; c < end; c++)
+        expect(c->reason, c->records, c->atoms, c->refusal);
 }
 
 #endif

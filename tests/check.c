@@ -50,7 +50,7 @@ int main(void)
 {
     expect("no bytes", (struct bytes)NONE, 0, PASTUREQUILL_WRONG_LENGTH);
     expect("no bytes and 33 atoms", (struct bytes)NONE, 33, PASTUREQUILL_WRONG_LENGTH);
-    expect_each(taken, sizeof taken / sizeof *taken, expect);
+    expect_each(taken, END(taken), expect);
     expect_faulty(expect);
     expect_shorthands_refused(expect);
     expect_number("255 records", MOST_RECORDS, 0, PASTUREQUILL_ACCEPTED);

@@ -3,9 +3,21 @@
 #define COUNTS_H
 
 #include <inttypes.h>
+#include <stdarg.h>
 #include <stdio.h>
 
 static int passed, failed;
+
+/* A reason with numbers in it, until the next one. */
+__attribute__((format(printf, 1, 2))) static inline const char *reason_with(const char *format, ...)
+{
+    static char reason[128];
+    va_list numbers;
+    va_start(numbers, format);
+    vsnprintf(reason, sizeof reason, format, numbers);
+    va_end(numbers);
+    return reason;
+}
 
 static inline void count(int fine, const char *reason, const char *what, uint64_t got, uint64_t expected)
 {

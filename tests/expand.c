@@ -2,10 +2,11 @@
  * records. Each input is handed over at both edges of memory that may not be touched, the records in memory that may
  * only be read, and the output with and without room to spare. What is written is checked, and expanded once more. */
 #define TEST_NAME "expand"
+#define SERVICE pasturequill_expand
+#define ELEMENT uint8_t
+#define EACH PASTUREQUILL_RECORD_SIZE
 
-#include "faults.h"
-#include "room.h"
-#include "shorthands.h"
+#include "counted.h"
 
 #define NOT(f) R(PASTUREQUILL_NOT, f, 0)
 #define AND(f, g) R(PASTUREQUILL_AND, f, g)
@@ -14,41 +15,10 @@
 #define FINAL R(PASTUREQUILL_FINAL, 0, 0)
 #define INITIAL R(PASTUREQUILL_INITIAL, 0, 0)
 #define NEXT(f) R(PASTUREQUILL_NEXT, f, 0)
-#define WEAK_NEXT(f) R(PASTUREQUILL_WEAK_NEXT, f, 0)
 #define PREVIOUS(f) R(PASTUREQUILL_PREVIOUS, f, 0)
-#define WEAK_PREVIOUS(f) R(PASTUREQUILL_WEAK_PREVIOUS, f, 0)
-#define EVENTUALLY(f) R(PASTUREQUILL_EVENTUALLY, f, 0)
-#define ALWAYS(f) R(PASTUREQUILL_ALWAYS, f, 0)
 #define ONCE(f) R(PASTUREQUILL_ONCE, f, 0)
-#define SO_FAR(f) R(PASTUREQUILL_SO_FAR, f, 0)
 #define UNTIL(f, g) R(PASTUREQUILL_UNTIL, f, g)
 #define SINCE(f, g) R(PASTUREQUILL_SINCE, f, g)
-
-/* ---- the call */
-static const struct bytes nothing = NONE;
-
-/* Compares an outcome: on a refusal all bytes stay; else the core's bytes are at their start, if they are known, and
- * the rest stays. */
-static void compare(const char *reason, pasturequill_counted got, const uint8_t *out, size_t room, int refusal,
-                    struct bytes core)
-{
-    struct bytes written = {core.at, refusal ? 0 : core.size};
-    count(got.refusal == refusal, reason, "refusal", got.refusal, (uint64_t)refusal);
-    count(got.count == written.size / RECORD_SIZE, reason, "count", got.count, written.size / RECORD_SIZE);
-    expect_room(reason, out, room, written);
-}
-
-/* One call at each edge. */
-static void expect(const char *reason, struct bytes records, uint64_t atoms, size_t room, int refusal,
-                   struct bytes core)
-{
-    for (int edge = GUARDED_AT_END; edge <= GUARDED_AT_START; edge++) {
-        uint8_t *out = guarded_fresh(room, edge);
-        const uint8_t *in = guarded(records.at, records.size, edge);
-        compare(reason, pasturequill_expand(in, records.size, atoms, out, room), out, room, refusal, core);
-        guarded_release();
-    }
-}
 
 /* What comes out is a formula, and expands to itself. */
 static void expect_settled(const char *reason, struct bytes records, uint64_t atoms)
@@ -61,151 +31,108 @@ static void expect_settled(const char *reason, struct bytes records, uint64_t at
     count(again == size && memcmp(once, twice, size) == 0, reason, "bytes, expanded once more,", again, size);
 }
 
-/* An accepted formula in room that is exact, longer, shorter by a byte or a record, and none. The core's bytes may be
- * unknown. */
+/* The core's bytes may be unknown. */
 static void expect_core(const char *reason, struct bytes records, uint64_t atoms, struct bytes core)
 {
-    expect(reason, records, atoms, core.size, PASTUREQUILL_ACCEPTED, core);
-    expect(reason, records, atoms, core.size + 1, PASTUREQUILL_ACCEPTED, core);
-    expect(reason, records, atoms, core.size + 40, PASTUREQUILL_ACCEPTED, core);
-    expect(reason, records, atoms, core.size - 1, PASTUREQUILL_NO_ROOM, nothing);
-    expect(reason, records, atoms, core.size - RECORD_SIZE, PASTUREQUILL_NO_ROOM, nothing);
-    expect(reason, records, atoms, 0, PASTUREQUILL_NO_ROOM, nothing);
+    expect_output(reason, records, atoms, (struct output){core.at, core.size});
     expect_settled(reason, records, atoms);
 }
 
 /* A refused formula, whatever the room. */
 static void expect_refusal(const char *reason, struct bytes records, uint64_t atoms, int refusal)
 {
-    expect(reason, records, atoms, 0, refusal, nothing);
-    expect(reason, records, atoms, MOST_BYTES, refusal, nothing);
-    expect(reason, records, atoms, 4 * MOST_BYTES, refusal, nothing);
+    static const size_t rooms[] = {0, MOST_BYTES, 4 * MOST_BYTES};
+    for (const size_t *room = rooms; room < END(rooms); room++)
+        expect(reason, records, atoms, *room, refusal, (struct output)NONE);
 }
 
 /* ---- byte for byte */
-struct expanded {
-    const char *reason;
-    struct bytes records, core;
-};
-
-/* p, q and r are atoms 0, 1 and 2 of three. */
-static const struct expanded expanded[] = {
+/* A formula, and the one in core kinds that it stands for. */
+static const struct brief {
+    const char *formula, *core;
+} briefs[] = {
     /* each shorthand alone */
-    {"not p", RECORDS(ATOM(0), NOT(0)), RECORDS(ATOM(0), TEST(0), FALSE_, BOX(1, 2))},
-    {"p and q", RECORDS(ATOM(0), ATOM(1), AND(0, 1)), RECORDS(ATOM(0), TEST(0), ATOM(1), DIAMOND(1, 2))},
-    {"p or q", RECORDS(ATOM(0), ATOM(1), OR(0, 1)),
-     RECORDS(ATOM(0), TEST(0), ATOM(1), TEST(2), CHOICE(1, 3), TRUE_, DIAMOND(4, 5))},
-    {"p implies q", RECORDS(ATOM(0), ATOM(1), IMPLIES(0, 1)), RECORDS(ATOM(0), TEST(0), ATOM(1), BOX(1, 2))},
-    {"final", RECORDS(FINAL), RECORDS(STEP, FALSE_, BOX(0, 1))},
-    {"initial", RECORDS(INITIAL), RECORDS(BACK, FALSE_, BOX(0, 1))},
-    {"next p", RECORDS(ATOM(0), NEXT(0)), RECORDS(STEP, ATOM(0), DIAMOND(0, 1))},
-    {"weak next p", RECORDS(ATOM(0), WEAK_NEXT(0)), RECORDS(STEP, ATOM(0), BOX(0, 1))},
-    {"previous p", RECORDS(ATOM(0), PREVIOUS(0)), RECORDS(BACK, ATOM(0), DIAMOND(0, 1))},
-    {"weak previous p", RECORDS(ATOM(0), WEAK_PREVIOUS(0)), RECORDS(BACK, ATOM(0), BOX(0, 1))},
-    {"eventually p", RECORDS(ATOM(0), EVENTUALLY(0)), RECORDS(STEP, STAR(0), ATOM(0), DIAMOND(1, 2))},
-    {"always p", RECORDS(ATOM(0), ALWAYS(0)), RECORDS(STEP, STAR(0), ATOM(0), BOX(1, 2))},
-    {"once p", RECORDS(ATOM(0), ONCE(0)), RECORDS(BACK, STAR(0), ATOM(0), DIAMOND(1, 2))},
-    {"so far p", RECORDS(ATOM(0), SO_FAR(0)), RECORDS(BACK, STAR(0), ATOM(0), BOX(1, 2))},
-    {"p until q", RECORDS(ATOM(0), ATOM(1), UNTIL(0, 1)),
-     RECORDS(ATOM(0), TEST(0), STEP, SEQUENCE(1, 2), STAR(3), ATOM(1), DIAMOND(4, 5))},
-    {"p since q", RECORDS(ATOM(0), ATOM(1), SINCE(0, 1)),
-     RECORDS(BACK, ATOM(0), TEST(1), SEQUENCE(0, 2), STAR(3), ATOM(1), DIAMOND(4, 5))},
+    {"not p", "[p?]false"},
+    {"p and q", "<p?>q"},
+    {"p or q", "<p? + q?>true"},
+    {"p implies q", "[p?]q"},
+    {"final", "[step]false"},
+    {"initial", "[back]false"},
+    {"next p", "<step>p"},
+    {"weak next p", "[step]p"},
+    {"previous p", "<back>p"},
+    {"weak previous p", "[back]p"},
+    {"eventually p", "<step*>p"},
+    {"always p", "[step*]p"},
+    {"once p", "<back*>p"},
+    {"so far p", "[back*]p"},
+    {"p until q", "<(p? ; step)*>q"},
+    {"p since q", "<(back ; p?)*>q"},
 
-    /* in digits */
-    {"p or q, in digits", RECORDS({2, 0, 0, 0, 0, 0}, {2, 0, 1, 0, 0, 0}, {34, 0, 0, 0, 1, 0}),
-     RECORDS({2, 0, 0, 0, 0, 0}, {7, 0, 0, 0, 0, 0}, {2, 0, 1, 0, 0, 0}, {7, 0, 2, 0, 0, 0}, {8, 0, 1, 0, 3, 0},
-             {1, 0, 0, 0, 0, 0}, {3, 0, 4, 0, 5, 0})},
-    {"p since q, in digits", RECORDS({2, 0, 0, 0, 0, 0}, {2, 0, 1, 0, 0, 0}, {47, 0, 0, 0, 1, 0}),
-     RECORDS({6, 0, 0, 0, 0, 0}, {2, 0, 0, 0, 0, 0}, {7, 0, 1, 0, 0, 0}, {9, 0, 0, 0, 2, 0}, {10, 0, 3, 0, 0, 0},
-             {2, 0, 1, 0, 0, 0}, {3, 0, 4, 0, 5, 0})},
-
-    /* arguments in the other order: field a's records come first, whatever their numbers */
-    {"q's record before p's, and", RECORDS(ATOM(1), ATOM(0), AND(1, 0)),
-     RECORDS(ATOM(0), TEST(0), ATOM(1), DIAMOND(1, 2))},
-    {"q's record before p's, or", RECORDS(ATOM(1), ATOM(0), OR(1, 0)),
-     RECORDS(ATOM(0), TEST(0), ATOM(1), TEST(2), CHOICE(1, 3), TRUE_, DIAMOND(4, 5))},
-    {"q's record before p's, implies", RECORDS(ATOM(1), ATOM(0), IMPLIES(1, 0)),
-     RECORDS(ATOM(0), TEST(0), ATOM(1), BOX(1, 2))},
-    {"q's record before p's, until", RECORDS(ATOM(1), ATOM(0), UNTIL(1, 0)),
-     RECORDS(ATOM(0), TEST(0), STEP, SEQUENCE(1, 2), STAR(3), ATOM(1), DIAMOND(4, 5))},
-    {"q's record before p's, since", RECORDS(ATOM(1), ATOM(0), SINCE(1, 0)),
-     RECORDS(BACK, ATOM(0), TEST(1), SEQUENCE(0, 2), STAR(3), ATOM(1), DIAMOND(4, 5))},
-
-    /* nested */
-    {"not not p", RECORDS(ATOM(0), NOT(0), NOT(1)),
-     RECORDS(ATOM(0), TEST(0), FALSE_, BOX(1, 2), TEST(3), FALSE_, BOX(4, 5))},
-    {"not final", RECORDS(FINAL, NOT(0)), RECORDS(STEP, FALSE_, BOX(0, 1), TEST(2), FALSE_, BOX(3, 4))},
-    {"next next p: the outer step comes first", RECORDS(ATOM(0), NEXT(0), NEXT(1)),
-     RECORDS(STEP, STEP, ATOM(0), DIAMOND(1, 2), DIAMOND(0, 3))},
-    {"previous weak next p", RECORDS(ATOM(0), WEAK_NEXT(0), PREVIOUS(1)),
-     RECORDS(BACK, STEP, ATOM(0), BOX(1, 2), DIAMOND(0, 3))},
-    {"always eventually p", RECORDS(ATOM(0), EVENTUALLY(0), ALWAYS(1)),
-     RECORDS(STEP, STAR(0), STEP, STAR(2), ATOM(0), DIAMOND(3, 4), BOX(1, 5))},
-    {"once so far p", RECORDS(ATOM(0), SO_FAR(0), ONCE(1)),
-     RECORDS(BACK, STAR(0), BACK, STAR(2), ATOM(0), BOX(3, 4), DIAMOND(1, 5))},
-    {"always, if p then eventually q", RECORDS(ATOM(0), ATOM(1), EVENTUALLY(1), IMPLIES(0, 2), ALWAYS(3)),
-     RECORDS(STEP, STAR(0), ATOM(0), TEST(2), STEP, STAR(4), ATOM(1), DIAMOND(5, 6), BOX(3, 7), BOX(1, 8))},
-    {"p and q, and r", RECORDS(ATOM(0), ATOM(1), AND(0, 1), ATOM(2), AND(2, 3)),
-     RECORDS(ATOM(0), TEST(0), ATOM(1), DIAMOND(1, 2), TEST(3), ATOM(2), DIAMOND(4, 5))},
-    {"p and, q and r", RECORDS(ATOM(0), ATOM(1), ATOM(2), AND(1, 2), AND(0, 3)),
-     RECORDS(ATOM(0), TEST(0), ATOM(1), TEST(2), ATOM(2), DIAMOND(3, 4), DIAMOND(1, 5))},
-    {"p or q, or r", RECORDS(ATOM(0), ATOM(1), OR(0, 1), ATOM(2), OR(2, 3)),
-     RECORDS(ATOM(0), TEST(0), ATOM(1), TEST(2), CHOICE(1, 3), TRUE_, DIAMOND(4, 5), TEST(6), ATOM(2), TEST(8),
-             CHOICE(7, 9), TRUE_, DIAMOND(10, 11))},
-    {"p or, q or r", RECORDS(ATOM(0), ATOM(1), ATOM(2), OR(1, 2), OR(0, 3)),
-     RECORDS(ATOM(0), TEST(0), ATOM(1), TEST(2), ATOM(2), TEST(4), CHOICE(3, 5), TRUE_, DIAMOND(6, 7), TEST(8),
-             CHOICE(1, 9), TRUE_, DIAMOND(10, 11))},
-    {"p until q, until r", RECORDS(ATOM(0), ATOM(1), UNTIL(0, 1), ATOM(2), UNTIL(2, 3)),
-     RECORDS(ATOM(0), TEST(0), STEP, SEQUENCE(1, 2), STAR(3), ATOM(1), DIAMOND(4, 5), TEST(6), STEP, SEQUENCE(7, 8),
-             STAR(9), ATOM(2), DIAMOND(10, 11))},
-    {"p until, q until r", RECORDS(ATOM(0), ATOM(1), ATOM(2), UNTIL(1, 2), UNTIL(0, 3)),
-     RECORDS(ATOM(0), TEST(0), STEP, SEQUENCE(1, 2), STAR(3), ATOM(1), TEST(5), STEP, SEQUENCE(6, 7), STAR(8), ATOM(2),
-             DIAMOND(9, 10), DIAMOND(4, 11))},
-    {"p since q, since r: each back before its test", RECORDS(ATOM(0), ATOM(1), SINCE(0, 1), ATOM(2), SINCE(2, 3)),
-     RECORDS(BACK, BACK, ATOM(0), TEST(2), SEQUENCE(1, 3), STAR(4), ATOM(1), DIAMOND(5, 6), TEST(7), SEQUENCE(0, 8),
-             STAR(9), ATOM(2), DIAMOND(10, 11))},
-    {"not p since initial", RECORDS(INITIAL, ATOM(0), NOT(1), SINCE(2, 0)),
-     RECORDS(BACK, ATOM(0), TEST(1), FALSE_, BOX(2, 3), TEST(4), SEQUENCE(0, 5), STAR(6), BACK, FALSE_, BOX(8, 9),
-             DIAMOND(7, 10))},
-    {"weak previous p implies weak next final", RECORDS(ATOM(0), WEAK_PREVIOUS(0), FINAL, WEAK_NEXT(2), IMPLIES(1, 3)),
-     RECORDS(BACK, ATOM(0), BOX(0, 1), TEST(2), STEP, STEP, FALSE_, BOX(5, 6), BOX(4, 7), BOX(3, 8))},
+    /* nested: the outer step or back step comes first */
+    {"not not p", "[([p?]false)?]false"},
+    {"not final", "[([step]false)?]false"},
+    {"next next p", "<step><step>p"},
+    {"previous weak next p", "<back>[step]p"},
+    {"always eventually p", "[step*]<step*>p"},
+    {"once so far p", "<back*>[back*]p"},
+    {"always (p implies eventually q)", "[step*][p?]<step*>q"},
+    {"(p and q) and r", "<(<p?>q)?>r"},
+    {"p and (q and r)", "<p?><q?>r"},
+    {"(p or q) or r", "<(<p? + q?>true)? + r?>true"},
+    {"p or (q or r)", "<p? + (<q? + r?>true)?>true"},
+    {"(p until q) until r", "<((<(p? ; step)*>q)? ; step)*>r"},
+    {"p until (q until r)", "<(p? ; step)*><(q? ; step)*>r"},
+    {"(p since q) since r", "<(back ; (<(back ; p?)*>q)?)*>r"},
+    {"weak previous p implies weak next final", "[([back]p)?][step][step]false"},
 
     /* shorthands inside core records and core records inside shorthands */
-    {"a shorthand in a test", RECORDS(ATOM(0), NOT(0), TEST(1), ATOM(1), DIAMOND(2, 3)),
-     RECORDS(ATOM(0), TEST(0), FALSE_, BOX(1, 2), TEST(3), ATOM(1), DIAMOND(4, 5))},
-    {"a shorthand after a path", RECORDS(STEP, ATOM(0), ONCE(1), BOX(0, 2)),
-     RECORDS(STEP, BACK, STAR(1), ATOM(0), DIAMOND(2, 3), BOX(0, 4))},
-    {"a shorthand in a star in a choice", RECORDS(FINAL, TEST(0), STAR(1), BACK, CHOICE(2, 3), TRUE_, DIAMOND(4, 5)),
-     RECORDS(STEP, FALSE_, BOX(0, 1), TEST(2), STAR(3), BACK, CHOICE(4, 5), TRUE_, DIAMOND(6, 7))},
-    {"a diamond inside next", RECORDS(BACK, TRUE_, DIAMOND(0, 1), NEXT(2)),
-     RECORDS(STEP, BACK, TRUE_, DIAMOND(1, 2), DIAMOND(0, 3))},
-    {"a box on both sides of or", RECORDS(STEP, FALSE_, BOX(0, 1), BACK, FALSE_, BOX(3, 4), OR(2, 5)),
-     RECORDS(STEP, FALSE_, BOX(0, 1), TEST(2), BACK, FALSE_, BOX(4, 5), TEST(6), CHOICE(3, 7), TRUE_, DIAMOND(8, 9))},
+    {"<(not p)?>q", "<([p?]false)?>q"},
+    {"[step]once p", "[step]<back*>p"},
+    {"<final?* + back>true", "<([step]false)?* + back>true"},
+    {"next <back>true", "<step><back>true"},
+    {"[step]false or [back]false", "<([step]false)? + ([back]false)?>true"},
 
-    /* shorthands in another order of records */
+    /* core records in postorder stay */
+    {"true", "true"},
+    {"false", "false"},
+    {"r", "r"},
+    {"<(p? ; step)*>q", "<(p? ; step)*>q"},
+};
+
+static const struct expanded {
+    const char *reason;
+    struct bytes records;
+    struct source core;
+} expanded[] = {
+    {"p or q, in digits", RECORDS({2, 0, 0, 0, 0, 0}, {2, 0, 1, 0, 0, 0}, {34, 0, 0, 0, 1, 0}),
+     LISTED({2, 0, 0, 0, 0, 0}, {7, 0, 0, 0, 0, 0}, {2, 0, 1, 0, 0, 0}, {7, 0, 2, 0, 0, 0}, {8, 0, 1, 0, 3, 0},
+            {1, 0, 0, 0, 0, 0}, {3, 0, 4, 0, 5, 0})},
+    {"p since q, in digits", RECORDS({2, 0, 0, 0, 0, 0}, {2, 0, 1, 0, 0, 0}, {47, 0, 0, 0, 1, 0}),
+     LISTED({6, 0, 0, 0, 0, 0}, {2, 0, 0, 0, 0, 0}, {7, 0, 1, 0, 0, 0}, {9, 0, 0, 0, 2, 0}, {10, 0, 3, 0, 0, 0},
+            {2, 0, 1, 0, 0, 0}, {3, 0, 4, 0, 5, 0})},
+
+    /* arguments in the other order: field a's records come first, whatever their numbers */
+    {"q's record before p's, and", RECORDS(ATOM(1), ATOM(0), AND(1, 0)), F("<p?>q")},
+    {"q's record before p's, or", RECORDS(ATOM(1), ATOM(0), OR(1, 0)), F("<p? + q?>true")},
+    {"q's record before p's, implies", RECORDS(ATOM(1), ATOM(0), IMPLIES(1, 0)), F("[p?]q")},
+    {"q's record before p's, until", RECORDS(ATOM(1), ATOM(0), UNTIL(1, 0)), F("<(p? ; step)*>q")},
+    {"q's record before p's, since", RECORDS(ATOM(1), ATOM(0), SINCE(1, 0)), F("<(back ; p?)*>q")},
+    {"not p since initial", RECORDS(INITIAL, ATOM(0), NOT(1), SINCE(2, 0)), F("<(back ; ([p?]false)?)*>[back]false")},
     {"all leaves first", RECORDS(ATOM(2), ATOM(1), ATOM(0), NOT(1), NEXT(0), UNTIL(2, 3), OR(5, 4)),
-     RECORDS(ATOM(0), TEST(0), STEP, SEQUENCE(1, 2), STAR(3), ATOM(1), TEST(5), FALSE_, BOX(6, 7), DIAMOND(4, 8),
-             TEST(9), STEP, ATOM(2), DIAMOND(11, 12), TEST(13), CHOICE(10, 14), TRUE_, DIAMOND(15, 16))},
+     F("<(<(p? ; step)*>[q?]false)? + (<step>r)?>true")},
     {"two branches interleaved", RECORDS(ATOM(1), ATOM(0), NEXT(0), PREVIOUS(1), NOT(2), NOT(3), AND(5, 4)),
-     RECORDS(BACK, ATOM(0), DIAMOND(0, 1), TEST(2), FALSE_, BOX(3, 4), TEST(5), STEP, ATOM(1), DIAMOND(7, 8), TEST(9),
-             FALSE_, BOX(10, 11), DIAMOND(6, 12))},
+     F("<([(<back>p)?]false)?>[(<step>q)?]false")},
 
     /* core records alone */
-    {"true", RECORDS(TRUE_), RECORDS(TRUE_)},
-    {"false", RECORDS(FALSE_), RECORDS(FALSE_)},
-    {"the last atom", RECORDS(ATOM(2)), RECORDS(ATOM(2))},
-    {"core records in postorder stay", RECORDS(ATOM(0), TEST(0), STEP, SEQUENCE(1, 2), STAR(3), ATOM(1), DIAMOND(4, 5)),
-     RECORDS(ATOM(0), TEST(0), STEP, SEQUENCE(1, 2), STAR(3), ATOM(1), DIAMOND(4, 5))},
-    {"the end before the path", RECORDS(ATOM(1), STEP, DIAMOND(1, 0)), RECORDS(STEP, ATOM(1), DIAMOND(0, 1))},
-    {"the second part before the first", RECORDS(BACK, ATOM(0), STEP, SEQUENCE(2, 0), BOX(3, 1)),
-     RECORDS(STEP, BACK, SEQUENCE(0, 1), ATOM(0), BOX(2, 3))},
+    {"the end before the path", RECORDS(ATOM(1), STEP, DIAMOND(1, 0)), F("<step>q")},
+    {"the second part before the first", RECORDS(BACK, ATOM(0), STEP, SEQUENCE(2, 0), BOX(3, 1)), F("[step ; back]p")},
     {"the second arm before the first", RECORDS(BACK, STEP, CHOICE(1, 0), TRUE_, DIAMOND(2, 3)),
-     RECORDS(STEP, BACK, CHOICE(0, 1), TRUE_, DIAMOND(2, 3))},
+     F("<step + back>true")},
     {"until with its leaves first", RECORDS(ATOM(1), STEP, ATOM(0), TEST(2), SEQUENCE(3, 1), STAR(4), DIAMOND(5, 0)),
-     RECORDS(ATOM(0), TEST(0), STEP, SEQUENCE(1, 2), STAR(3), ATOM(1), DIAMOND(4, 5))},
+     F("<(p? ; step)*>q")},
     {"a star that stands still and turns is taken",
-     RECORDS(TRUE_, BACK, STEP, CHOICE(2, 1), STAR(3), STAR(4), DIAMOND(5, 0)),
-     RECORDS(STEP, BACK, CHOICE(0, 1), STAR(2), STAR(3), TRUE_, DIAMOND(4, 5))},
+     RECORDS(TRUE_, BACK, STEP, CHOICE(2, 1), STAR(3), STAR(4), DIAMOND(5, 0)), F("<(step + back)**>true")},
 };
 
 /* ---- refusals in the presence of shorthands */
@@ -255,11 +182,9 @@ static struct formula over(const struct shorthand *s, uint8_t other, size_t a, s
     return f;
 }
 
-static void expect_fault(const struct shorthand *s, const char *fault, const struct formula *f, int refusal)
+static void expect_fault(const struct shorthand *s, const char *fault, struct formula f, int refusal)
 {
-    char reason[64];
-    snprintf(reason, sizeof reason, "%s: %s", s->name, fault);
-    expect_refusal(reason, bytes_of(f), 2, refusal);
+    expect_refusal(reason_with("%s: %s", s->name, fault), bytes_of(&f), 2, refusal);
 }
 
 /* The shorthand over p and q, or those that it has of these, with one byte that is not 0. */
@@ -267,14 +192,7 @@ static void expect_not_zero(const struct shorthand *s, const char *fault, size_t
 {
     struct formula f = over(s, PASTUREQUILL_ATOM, 0, s->arguments == 2);
     f.records[2 * RECORD_SIZE + at] = byte;
-    expect_fault(s, fault, &f, PASTUREQUILL_NOT_ZERO);
-}
-
-/* The shorthand over fields of which one is at fault. */
-static void expect_fields(const struct shorthand *s, const char *fault, uint8_t other, size_t a, size_t b, int refusal)
-{
-    struct formula f = over(s, other, a, b);
-    expect_fault(s, fault, &f, refusal);
+    expect_fault(s, fault, f, PASTUREQUILL_NOT_ZERO);
 }
 
 /* Each shorthand with each fault that a record of it can have. */
@@ -288,24 +206,21 @@ static void faults_of(const struct shorthand *s)
         expect_not_zero(s, "an unused byte is 1", at, 1);
         expect_not_zero(s, "an unused byte is 128", at, 128);
     }
-    for (size_t i = 0; i < sizeof late / sizeof *late; i++) {
-        if (s->arguments >= 1)
-            expect_fields(s, "a late argument a", FORMULA, late[i], s->arguments == 2, PASTUREQUILL_LATE_CHILD);
-        if (s->arguments == 2)
-            expect_fields(s, "a late argument b", FORMULA, 0, late[i], PASTUREQUILL_LATE_CHILD);
-    }
+    for (const size_t *r = late; r < END(late) && s->arguments >= 1; r++)
+        expect_fault(s, "a late argument a", over(s, FORMULA, *r, s->arguments == 2), PASTUREQUILL_LATE_CHILD);
+    for (const size_t *r = late; r < END(late) && s->arguments == 2; r++)
+        expect_fault(s, "a late argument b", over(s, FORMULA, 0, *r), PASTUREQUILL_LATE_CHILD);
     if (s->arguments >= 1)
-        expect_fields(s, "a path as argument a", PATH, 1, 0, PASTUREQUILL_WRONG_SORT);
+        expect_fault(s, "a path as argument a", over(s, PATH, 1, 0), PASTUREQUILL_WRONG_SORT);
     if (s->arguments == 2)
-        expect_fields(s, "a path as argument b", PATH, 0, 1, PASTUREQUILL_WRONG_SORT);
-    expect_fields(s, "a record that is no argument", FORMULA, 0, 0, PASTUREQUILL_NOT_A_TREE);
+        expect_fault(s, "a path as argument b", over(s, PATH, 0, 1), PASTUREQUILL_WRONG_SORT);
+    expect_fault(s, "a record that is no argument", over(s, FORMULA, 0, 0), PASTUREQUILL_NOT_A_TREE);
 }
 
 /* The shorthand as the one that brings the number of records up to this one. */
 static void reaches(const struct shorthand *s, size_t records)
 {
-    char reason[64];
-    snprintf(reason, sizeof reason, "%s: %zu records", s->name, records);
+    const char *reason = reason_with("%s: %zu records", s->name, records);
     struct formula f = {.n = 0};
     if (s->arguments == 0) {
         size_t g = add_stars(&f, records - s->own - 2, PASTUREQUILL_TRUE);
@@ -430,38 +345,35 @@ static void far_too_long(void)
     expect_refusal("255 nots of true: 256 records in", bytes_of(&f), 0, PASTUREQUILL_WRONG_LENGTH);
 }
 
-/* A slice of no bytes may have no address. */
 static void no_addresses(void)
 {
-    struct formula final = {.n = 0}, long_one = {.n = 0};
-    add(&final, PASTUREQUILL_FINAL, 0, 0);
+    struct formula final = written("", "final"), long_one = {.n = 0};
     add_times(&long_one, PASTUREQUILL_NEXT, 128, yes(&long_one));
-    compare("no address for no records", pasturequill_expand(NULL, 0, 0, NULL, 0), NULL, 0, PASTUREQUILL_WRONG_LENGTH,
-            nothing);
-    compare("no address for no records, and 33 atoms", pasturequill_expand(NULL, 0, 33, NULL, 0), NULL, 0,
-            PASTUREQUILL_WRONG_LENGTH, nothing);
-    compare("no address for no room", pasturequill_expand(final.records, RECORD_SIZE, 0, NULL, 0), NULL, 0,
-            PASTUREQUILL_NO_ROOM, nothing);
-    compare("no address for no room, and 33 atoms", pasturequill_expand(final.records, RECORD_SIZE, 33, NULL, 0), NULL,
-            0, PASTUREQUILL_WRONG_SIZE, nothing);
-    compare("no address for no room, and too long",
-            pasturequill_expand(long_one.records, size_of(&long_one), 0, NULL, 0), NULL, 0, PASTUREQUILL_TOO_LONG,
-            nothing);
+    expect_no_address("no address for no records", (struct bytes)NONE, 0, PASTUREQUILL_WRONG_LENGTH);
+    expect_no_address("no address for no records, and 33 atoms", (struct bytes)NONE, 33, PASTUREQUILL_WRONG_LENGTH);
+    expect_no_address("no address for no room", bytes_of(&final), 0, PASTUREQUILL_NO_ROOM);
+    expect_no_address("no address for no room, and 33 atoms", bytes_of(&final), 33, PASTUREQUILL_WRONG_SIZE);
+    expect_no_address("no address for no room, and too long", bytes_of(&long_one), 0, PASTUREQUILL_TOO_LONG);
 }
 
 int main(void)
 {
-    for (size_t i = 0; i < sizeof expanded / sizeof *expanded; i++)
-        expect_core(expanded[i].reason, expanded[i].records, 3, expanded[i].core);
+    for (const struct brief *v = briefs; v < END(briefs); v++) {
+        struct formula f = written("pqr", v->formula), core = written("pqr", v->core);
+        expect_core(v->formula, bytes_of(&f), 3, bytes_of(&core));
+    }
+    for (const struct expanded *v = expanded; v < END(expanded); v++) {
+        struct formula core;
+        expect_core(v->reason, v->records, 3, records_of(&v->core, &core));
+    }
     expect_faulty(expect_refusal);
-    expect_each(refused, sizeof refused / sizeof *refused, expect_refusal);
+    expect_each(refused, END(refused), expect_refusal);
     for (size_t i = 0; i < SHORTHANDS; i++) {
         const struct shorthand *s = &shorthands[i];
         count(s->kind == 32 + i, s->name, "number in the header", s->kind, 32 + i);
         faults_of(s);
-        reaches(s, MOST_RECORDS - 1);
-        reaches(s, MOST_RECORDS);
-        reaches(s, MOST_RECORDS + 1);
+        for (size_t records = MOST_RECORDS - 1; records <= MOST_RECORDS + 1; records++)
+            reaches(s, records);
     }
     steps();
     nots();

@@ -80,14 +80,7 @@ static const struct records_case not_core[] = {
 };
 
 /* All cases of these tables. */
-static inline void expect_faulty(expect_records *expect)
-{
-    expect_each(faulty, sizeof faulty / sizeof *faulty, expect);
-}
-
-static inline void expect_shorthands_refused(expect_records *expect)
-{
-    expect_each(not_core, sizeof not_core / sizeof *not_core, expect);
-}
+static inline void expect_faulty(expect_records *expect) { expect_each(faulty, END(faulty), expect); }
+static inline void expect_shorthands_refused(expect_records *expect) { expect_each(not_core, END(not_core), expect); }
 
 #endif

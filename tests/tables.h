@@ -19,6 +19,9 @@ struct words {
 #define WORDS(...) {(const uint16_t[]){__VA_ARGS__}, sizeof((const uint16_t[]){__VA_ARGS__}) / sizeof(uint16_t)}
 #define NONE {NULL, 0}
 
+/* Where a table ends. */
+#define END(table) (table + sizeof table / sizeof *table)
+
 /* A row that starts with its reason and a refusal, which is named as in the header but for what all names begin with.
  */
 #define ROW(refusal, reason, ...) {reason, PASTUREQUILL_##refusal, __VA_ARGS__}

@@ -9,208 +9,175 @@
 enum { MOST_ATOMS = PASTUREQUILL_MOST_ATOMS, MOST_INSTANTS = PASTUREQUILL_MOST_INSTANTS };
 
 /* ---- the call */
+struct input {
+    const char *reason;
+    uint64_t atoms, instants;
+    struct bytes records, cells;
+};
+
+/* How many bytes the table of an accepted input has. */
+static size_t table_size(const struct input *in) { return in->records.size / RECORD_SIZE * (size_t)in->instants; }
+
 /* What record r has in the table at instant k where that needs no reading of paths; -1 if it does. */
-static int plain_value(const uint8_t *records, size_t r, uint64_t atoms, const uint8_t *cells, size_t k)
+static int plain_value(const struct input *in, size_t r, size_t k)
 {
-    switch (kind_of(records, r)) {
-    case PASTUREQUILL_FALSE:
-        return 0;
-    case PASTUREQUILL_TRUE:
-        return 2;
-    case PASTUREQUILL_ATOM:
-        return cells[k * atoms + field_a(records, r)];
+    switch (kind_of(in->records.at, r)) {
+    case PASTUREQUILL_TRUE: return 2;
+    case PASTUREQUILL_ATOM: return in->cells.at[k * in->atoms + field_a(in->records.at, r)];
     case PASTUREQUILL_DIAMOND:
-    case PASTUREQUILL_BOX:
-        return -1;
-    default:
-        return 0; /* a path */
+    case PASTUREQUILL_BOX: return -1;
+    default: return 0; /* false, or a path */
     }
 }
 
 /* `values` is the whole table, or its last row alone. What needs a reading of paths is not known. */
-static void expect_table(const char *reason, struct bytes records, uint64_t atoms, size_t instants, struct bytes cells,
-                         struct bytes values, const uint8_t *table, size_t room)
+static void expect_table(const struct input *in, struct bytes values, const uint8_t *table, size_t room)
 {
     static uint8_t expected[MOST_RECORDS * MOST_INSTANTS];
-    size_t needed = records.size / RECORD_SIZE * instants, before = needed - values.size;
+    size_t instants = (size_t)in->instants, before = table_size(in) - values.size;
     for (size_t at = 0; at < before; at++) {
-        int plain = plain_value(records.at, at / instants, atoms, cells.at, at % instants);
+        int plain = plain_value(in, at / instants, at % instants);
         expected[at] = plain == -1 ? table[at] : (uint8_t)plain;
     }
     memcpy(expected + before, values.at, values.size);
-    expect_room(reason, table, room, (struct bytes){expected, needed});
+    expect_room(in->reason, table, room, (struct bytes){expected, table_size(in)});
 }
 
 /* One call at each edge: on a refusal the value is 0 and the table stays. */
-static void expect(const char *reason, struct bytes records, uint64_t atoms, uint64_t instants, struct bytes cells,
-                   size_t room, int refusal, struct bytes values)
+static void expect(const struct input *in, size_t room, int refusal, struct bytes values)
 {
+    struct bytes records = in->records, cells = in->cells;
+    uint8_t value = refusal ? 0 : values.at[values.size - (size_t)in->instants];
     for (int edge = GUARDED_AT_END; edge <= GUARDED_AT_START; edge++) {
-        uint8_t *table = guarded_fresh(room, edge), value = refusal ? 0 : values.at[values.size - (size_t)instants];
+        uint8_t *table = guarded_fresh(room, edge);
         pasturequill_valued got =
-            pasturequill_value(guarded(records.at, records.size, edge), records.size, atoms, instants,
+            pasturequill_value(guarded(records.at, records.size, edge), records.size, in->atoms, in->instants,
                                guarded(cells.at, cells.size, edge), cells.size, table, room);
-        count(got.refusal == refusal, reason, "refusal", got.refusal, (uint64_t)refusal);
-        count(got.value == value, reason, "value", got.value, value);
+        count(got.refusal == refusal, in->reason, "refusal", got.refusal, (uint64_t)refusal);
+        count(got.value == value, in->reason, "value", got.value, value);
         if (refusal)
-            expect_room(reason, table, room, (struct bytes)NONE);
+            expect_room(in->reason, table, room, (struct bytes)NONE);
         else
-            expect_table(reason, records, atoms, (size_t)instants, cells, values, table, room);
+            expect_table(in, values, table, room);
         guarded_release();
     }
 }
 
-static void expect_values(const char *reason, struct bytes records, uint64_t atoms, size_t instants, struct bytes cells,
-                          struct bytes values)
+static void expect_values(struct input in, struct bytes values)
 {
-    size_t needed = records.size / RECORD_SIZE * instants;
-    expect(reason, records, atoms, instants, cells, needed, PASTUREQUILL_ACCEPTED, values);
-    expect(reason, records, atoms, instants, cells, needed + 1, PASTUREQUILL_ACCEPTED, values);
-    expect(reason, records, atoms, instants, cells, needed + 40, PASTUREQUILL_ACCEPTED, values);
+    static const size_t spare[] = {0, 1, 40};
+    for (const size_t *more = spare; more < END(spare); more++)
+        expect(&in, table_size(&in) + *more, PASTUREQUILL_ACCEPTED, values);
 }
 
-static void expect_refused(const char *reason, struct bytes records, uint64_t atoms, uint64_t instants,
-                           struct bytes cells, size_t room, int refusal)
+static void expect_refused(struct input in, size_t room, int refusal)
 {
-    expect(reason, records, atoms, instants, cells, room, refusal, (struct bytes)NONE);
+    expect(&in, room, refusal, (struct bytes)NONE);
 }
 
 /* ---- accepted inputs */
-struct valued {
+/* Cells are rows: the atoms at instant 0, then those at instant 1. Values are the whole formula's row of the table,
+ * perhaps after those of the other records. */
+static const struct valued {
     const char *reason;
-    uint64_t atoms;
-    size_t instants;
-    struct bytes records, cells, values;
-};
-
-/* The formulas that stand in several cases. */
-static const uint8_t until[][RECORD_SIZE] = {ATOM(0), TEST(0), STEP, SEQUENCE(1, 2), STAR(3), ATOM(1), DIAMOND(4, 5)};
-#define UNTIL {until[0], sizeof until}
-#define AS_LONG_AS RECORDS(ATOM(0), TEST(0), STEP, SEQUENCE(1, 2), STAR(3), ATOM(1), BOX(4, 5))
-#define IMPLIES RECORDS(ATOM(0), TEST(0), ATOM(1), BOX(1, 2))
-#define STANDING RECORDS(ATOM(0), TEST(0), STAR(1), ATOM(1), DIAMOND(2, 3))
-
-/* p, q and r are atoms 0, 1 and 2. Cells are rows: the atoms at instant 0, then those at instant 1. */
-static const struct valued valued[] = {
+    struct source formula;
+    const char *cells, *values;
+} valued[] = {
     /* the examples of the specification by letter */
-    {"A: p until q, p only assumed on the way", 2, 3, UNTIL, BYTES(2, 0, 1, 0, 0, 2), BYTES(1, 1, 2)},
-    {"A: the whole table, in which paths have zeros", 2, 3, UNTIL,
-     BYTES(2, 0, 1, 0, 0, 2), BYTES(2, 1, 0, 0, 0, 0, 0, 0, 0, 0, 0, 0, 0, 0, 0, 0, 0, 2, 1, 1, 2)},
-    {"B: p until q, p proved on the way", 2, 3, UNTIL, BYTES(2, 0, 2, 0, 0, 2), BYTES(2, 2, 2)},
-    {"C: p at every second instant", 1, 4, RECORDS(STEP, STEP, SEQUENCE(0, 1), STAR(2), ATOM(0), BOX(3, 4)),
-     BYTES(2, 0, 2, 0), BYTES(2, 0, 2, 0)},
-    {"D: a star that stands still gets nowhere", 2, 1, STANDING, BYTES(2, 0), BYTES(0)},
-    {"E: a star that turns round gets everywhere", 1, 3,
-     RECORDS(STEP, BACK, CHOICE(0, 1), STAR(2), ATOM(0), DIAMOND(3, 4)), BYTES(0, 0, 1), BYTES(1, 1, 1)},
-    {"F: p once", 1, 2, RECORDS(BACK, STAR(0), ATOM(0), DIAMOND(1, 2)), BYTES(2, 0), BYTES(2, 2)},
-    {"G: final", 0, 2, RECORDS(STEP, FALSE_, BOX(0, 1)), NONE, BYTES(0, 2)},
-    {"H: 1 implies 1", 2, 1, IMPLIES, BYTES(1, 1), BYTES(2)},
-    {"I: 2 implies 1", 2, 1, IMPLIES, BYTES(2, 1), BYTES(1)},
-    {"J: 1 implies 0", 2, 1, IMPLIES, BYTES(1, 0), BYTES(0)},
-    {"K: 0 implies 0", 2, 1, IMPLIES, BYTES(0, 0), BYTES(2)},
-    {"M: not p, p assumed", 1, 1, RECORDS(ATOM(0), TEST(0), FALSE_, BOX(1, 2)), BYTES(1), BYTES(0)},
-    {"N: a box where no step is left", 1, 1, RECORDS(STEP, ATOM(0), BOX(0, 1)), BYTES(0), BYTES(2)},
-    {"N: a diamond where no step is left", 1, 1, RECORDS(STEP, ATOM(0), DIAMOND(0, 1)), BYTES(2), BYTES(0)},
+    {"A: p until q, p only assumed on the way", F("<(p? ; step)*>q"), "20 10 02", "112"},
+    {"A: the whole table, in which paths have zeros", F("<(p? ; step)*>q"), "20 10 02", "210 000 000 000 000 002 112"},
+    {"B: p until q, p proved on the way", F("<(p? ; step)*>q"), "20 20 02", "222"},
+    {"C: p at every second instant", F("[(step ; step)*]p"), "2 0 2 0", "2020"},
+    {"D: a star that stands still gets nowhere", F("<p?*>q"), "20", "0"},
+    {"E: a star that turns round gets everywhere", F("<(step + back)*>p"), "0 0 1", "111"},
+    {"F: p once", F("<back*>p"), "2 0", "22"},
+    {"G: final", F("[step]false"), "", "02"},
+    {"H: 1 implies 1", F("[p?]q"), "11", "2"},
+    {"I: 2 implies 1", F("[p?]q"), "21", "1"},
+    {"J: 1 implies 0", F("[p?]q"), "10", "0"},
+    {"K: 0 implies 0", F("[p?]q"), "00", "2"},
+    {"M: not p, p assumed", F("[p?]false"), "1", "0"},
+    {"N: a box where no step is left", F("[step]p"), "0", "2"},
+    {"N: a diamond where no step is left", F("<step>p"), "2", "0"},
 
     /* each kind by itself */
-    {"false", 0, 2, RECORDS(FALSE_), NONE, BYTES(0, 0)},
-    {"true", 0, 2, RECORDS(TRUE_), NONE, BYTES(2, 2)},
-    {"an atom has its cells", 2, 3, RECORDS(ATOM(1)), BYTES(2, 0, 2, 1, 0, 2), BYTES(0, 1, 2)},
-    {"a step leads on", 1, 3, RECORDS(STEP, ATOM(0), DIAMOND(0, 1)), BYTES(0, 1, 2), BYTES(1, 2, 0)},
-    {"a back step leads back", 1, 3, RECORDS(BACK, ATOM(0), DIAMOND(0, 1)), BYTES(1, 2, 0), BYTES(0, 1, 2)},
-    {"a box over a back step asks nothing at the first instant", 1, 3, RECORDS(BACK, ATOM(0), BOX(0, 1)),
-     BYTES(1, 2, 0), BYTES(2, 1, 2)},
-    {"and: the smaller", 2, 1, RECORDS(ATOM(0), TEST(0), ATOM(1), DIAMOND(1, 2)), BYTES(2, 1), BYTES(1)},
-    {"or: the greater", 2, 1, RECORDS(ATOM(0), TEST(0), ATOM(1), TEST(2), CHOICE(1, 3), TRUE_, DIAMOND(4, 5)),
-     BYTES(1, 2), BYTES(2)},
-    {"a choice of neighbours: the better one", 1, 3, RECORDS(STEP, BACK, CHOICE(0, 1), ATOM(0), DIAMOND(2, 3)),
-     BYTES(1, 0, 2), BYTES(0, 2, 0)},
-    {"a box over neighbours: the worse one", 1, 3, RECORDS(STEP, BACK, CHOICE(0, 1), ATOM(0), BOX(2, 3)),
-     BYTES(1, 0, 2), BYTES(0, 1, 0)},
-    {"a sequence of two steps", 1, 3, RECORDS(STEP, STEP, SEQUENCE(0, 1), ATOM(0), DIAMOND(2, 3)),
-     BYTES(0, 1, 2), BYTES(2, 0, 0)},
-    {"a sequence keeps its order: step, then p", 1, 2,
-     RECORDS(STEP, ATOM(0), TEST(1), SEQUENCE(0, 2), TRUE_, DIAMOND(3, 4)), BYTES(0, 1), BYTES(1, 0)},
-    {"a sequence keeps its order: p, then step", 1, 2,
-     RECORDS(STEP, ATOM(0), TEST(1), SEQUENCE(2, 0), TRUE_, DIAMOND(3, 4)), BYTES(0, 1), BYTES(0, 0)},
-    {"since: back, then p, up to q", 2, 3,
-     RECORDS(BACK, ATOM(0), TEST(1), SEQUENCE(0, 2), STAR(3), ATOM(1), DIAMOND(4, 5)),
-     BYTES(1, 2, 2, 0, 0, 0), BYTES(2, 1, 1)},
-    {"no atoms: in the end, final", 0, 3, RECORDS(STEP, STAR(0), STEP, FALSE_, BOX(2, 3), DIAMOND(1, 4)),
-     NONE, BYTES(2, 2, 2)},
-    {"the formula before its path", 1, 2, RECORDS(ATOM(0), STEP, STAR(1), DIAMOND(2, 0)), BYTES(0, 1), BYTES(1, 1)},
-    {"A in another order", 2, 3, RECORDS(ATOM(1), STEP, ATOM(0), TEST(2), SEQUENCE(3, 1), STAR(4), DIAMOND(5, 0)),
-     BYTES(2, 0, 1, 0, 0, 2), BYTES(1, 1, 2)},
+    {"false", F("false"), "", "00"},
+    {"true", F("true"), "", "22"},
+    {"an atom has its cells", F("q"), "20 21 02", "012"},
+    {"a step leads on", F("<step>p"), "0 1 2", "120"},
+    {"a back step leads back", F("<back>p"), "1 2 0", "012"},
+    {"a box over a back step asks nothing at the first instant", F("[back]p"), "1 2 0", "212"},
+    {"and: the smaller", F("<p?>q"), "21", "1"},
+    {"or: the greater", F("<p? + q?>true"), "12", "2"},
+    {"a choice of neighbours: the better one", F("<step + back>p"), "1 0 2", "020"},
+    {"a box over neighbours: the worse one", F("[step + back]p"), "1 0 2", "010"},
+    {"a sequence of two steps", F("<step ; step>p"), "0 1 2", "200"},
+    {"a sequence keeps its order: step, then p", F("<step ; p?>true"), "0 1", "10"},
+    {"a sequence keeps its order: p, then step", LISTED(STEP, ATOM(0), TEST(1), SEQUENCE(2, 0), TRUE_, DIAMOND(3, 4)),
+     "0 1", "00"},
+    {"since: back, then p, up to q", F("<(back ; p?)*>q"), "12 20 00", "211"},
+    {"no atoms: in the end, final", F("<step*>[step]false"), "", "222"},
+    {"the formula before its path", LISTED(ATOM(0), STEP, STAR(1), DIAMOND(2, 0)), "0 1", "11"},
+    {"A in another order", LISTED(ATOM(1), STEP, ATOM(0), TEST(2), SEQUENCE(3, 1), STAR(4), DIAMOND(5, 0)), "20 10 02",
+     "112"},
 
     /* a box over a star: the conclusion is due as far as the way leads */
-    {"as long as p, q: an assumed way to a 0", 2, 2, AS_LONG_AS, BYTES(1, 2, 0, 0), BYTES(0, 0)},
-    {"as long as p, q: an assumed way to a 1", 2, 2, AS_LONG_AS, BYTES(1, 2, 0, 1), BYTES(2, 1)},
-    {"as long as p, q: a proved way to a 1", 2, 2, AS_LONG_AS, BYTES(2, 2, 0, 1), BYTES(1, 1)},
-    {"as long as p, q: no way to a 0", 2, 2, AS_LONG_AS, BYTES(0, 2, 2, 0), BYTES(2, 0)},
+    {"as long as p, q: an assumed way to a 0", F("[(p? ; step)*]q"), "12 00", "00"},
+    {"as long as p, q: an assumed way to a 1", F("[(p? ; step)*]q"), "12 01", "21"},
+    {"as long as p, q: a proved way to a 1", F("[(p? ; step)*]q"), "22 01", "11"},
+    {"as long as p, q: no way to a 0", F("[(p? ; step)*]q"), "02 20", "20"},
 
     /* stars that stand still */
-    {"no pass is needed, p or not", 2, 1, STANDING, BYTES(0, 2), BYTES(2)},
-    {"a box over standing still asks of where it stands", 2, 1, RECORDS(ATOM(0), TEST(0), STAR(1), ATOM(1), BOX(2, 3)),
-     BYTES(0, 1), BYTES(1)},
-    {"standing still or stepping: the steps lead there", 2, 3,
-     RECORDS(ATOM(0), TEST(0), STEP, CHOICE(1, 2), STAR(3), ATOM(1), DIAMOND(4, 5)),
-     BYTES(0, 0, 1, 0, 0, 1), BYTES(1, 1, 1)},
-    {"a test taken twice costs no more than once", 2, 3,
-     RECORDS(ATOM(0), TEST(0), ATOM(0), TEST(2), SEQUENCE(1, 3), STEP, SEQUENCE(4, 5), STAR(6), ATOM(1), DIAMOND(7, 8)),
-     BYTES(1, 0, 1, 0, 0, 2), BYTES(1, 1, 2)},
-    {"a star of a test lets all pass", 2, 2,
-     RECORDS(ATOM(0), TEST(0), STAR(1), STEP, SEQUENCE(2, 3), STAR(4), ATOM(1), DIAMOND(5, 6)),
-     BYTES(0, 0, 0, 1), BYTES(1, 1)},
+    {"no pass is needed, p or not", F("<p?*>q"), "02", "2"},
+    {"a box over standing still asks of where it stands", F("[p?*]q"), "01", "1"},
+    {"standing still or stepping: the steps lead there", F("<(p? + step)*>q"), "00 10 01", "111"},
+    {"a test taken twice costs no more than once", F("<(p? ; p? ; step)*>q"), "10 10 02", "112"},
+    {"a star of a test lets all pass", F("<(p?* ; step)*>q"), "00 01", "11"},
 
     /* stars that turn round */
-    {"step and back is staying", 1, 3, RECORDS(STEP, BACK, SEQUENCE(0, 1), STAR(2), ATOM(0), DIAMOND(3, 4)),
-     BYTES(0, 1, 2), BYTES(0, 1, 2)},
-    {"two on and one back stops one before the end", 1, 4,
-     RECORDS(STEP, STEP, SEQUENCE(0, 1), BACK, SEQUENCE(2, 3), STAR(4), ATOM(0), DIAMOND(5, 6)),
-     BYTES(0, 0, 1, 2), BYTES(1, 1, 1, 2)},
-    {"a box both ways sees the least", 1, 3, RECORDS(STEP, BACK, CHOICE(0, 1), STAR(2), ATOM(0), BOX(3, 4)),
-     BYTES(2, 1, 2), BYTES(1, 1, 1)},
-    {"on only where p, back at will", 2, 3,
-     RECORDS(ATOM(0), TEST(0), STEP, SEQUENCE(1, 2), BACK, CHOICE(3, 4), STAR(5), ATOM(1), DIAMOND(6, 7)),
-     BYTES(1, 0, 0, 2, 0, 0), BYTES(1, 2, 2)},
+    {"step and back is staying", F("<(step ; back)*>p"), "0 1 2", "012"},
+    {"two on and one back stops one before the end", F("<(step ; step ; back)*>p"), "0 0 1 2", "1112"},
+    {"a box both ways sees the least", F("[(step + back)*]p"), "2 1 2", "111"},
+    {"on only where p, back at will", F("<(p? ; step + back)*>q"), "10 02 00", "122"},
 
     /* stars of stars */
-    {"a star of a star is the star", 1, 3, RECORDS(STEP, STAR(0), STAR(1), ATOM(0), DIAMOND(2, 3)),
-     BYTES(0, 0, 2), BYTES(2, 2, 2)},
-    {"C under one more star", 1, 4, RECORDS(STEP, STEP, SEQUENCE(0, 1), STAR(2), STAR(3), ATOM(0), BOX(4, 5)),
-     BYTES(2, 0, 2, 0), BYTES(2, 0, 2, 0)},
-    {"the outer star goes from the second inner one to the first again", 3, 4,
-     RECORDS(ATOM(0), TEST(0), STEP, SEQUENCE(1, 2), STAR(3), ATOM(1), TEST(5), STEP, SEQUENCE(6, 7), STAR(8),
-             SEQUENCE(4, 9), STAR(10), ATOM(2), DIAMOND(11, 12)),
-     BYTES(2, 0, 0, 0, 2, 0, 1, 0, 0, 0, 0, 2), BYTES(1, 1, 1, 2)},
-    {"the same without the outer star gets there from the last two alone", 3, 4,
-     RECORDS(ATOM(0), TEST(0), STEP, SEQUENCE(1, 2), STAR(3), ATOM(1), TEST(5), STEP, SEQUENCE(6, 7), STAR(8),
-             SEQUENCE(4, 9), ATOM(2), DIAMOND(10, 11)),
-     BYTES(2, 0, 0, 0, 2, 0, 1, 0, 0, 0, 0, 2), BYTES(0, 0, 1, 2)},
-    {"on and on, then back and back, again and again", 1, 3,
-     RECORDS(STEP, STAR(0), BACK, STAR(2), SEQUENCE(1, 3), STAR(4), ATOM(0), DIAMOND(5, 6)),
-     BYTES(0, 1, 0), BYTES(1, 1, 1)},
+    {"a star of a star is the star", F("<step**>p"), "0 0 2", "222"},
+    {"C under one more star", F("[(step ; step)**]p"), "2 0 2 0", "2020"},
+    {"the outer star goes from the second inner one to the first again", F("<((p? ; step)* ; (q? ; step)*)*>r"),
+     "200 020 100 002", "1112"},
+    {"the same without the outer star gets there from the last two alone", F("<(p? ; step)* ; (q? ; step)*>r"),
+     "200 020 100 002", "0012"},
+    {"on and on, then back and back, again and again", F("<(step* ; back*)*>p"), "0 1 0", "111"},
 
     /* tests inside tests */
-    {"not not p: an assumption is no refutation; with the whole table", 1, 3,
-     RECORDS(ATOM(0), TEST(0), FALSE_, BOX(1, 2), TEST(3), FALSE_, BOX(4, 5)),
-     BYTES(0, 1, 2), BYTES(0, 1, 2, 0, 0, 0, 0, 0, 0, 2, 0, 0, 0, 0, 0, 0, 0, 0, 0, 2, 2)},
-    {"p and q, tested, and r, tested: the least of three", 3, 1,
-     RECORDS(ATOM(0), TEST(0), ATOM(1), DIAMOND(1, 2), TEST(3), ATOM(2), DIAMOND(4, 5), TEST(6), TRUE_, DIAMOND(7, 8)),
-     BYTES(2, 1, 2), BYTES(1)},
-    {"on while p comes next, up to q", 2, 3,
-     RECORDS(STEP, ATOM(0), DIAMOND(0, 1), TEST(2), STEP, SEQUENCE(3, 4), STAR(5), ATOM(1), DIAMOND(6, 7)),
-     BYTES(0, 0, 1, 0, 2, 2), BYTES(1, 2, 2)},
-    {"a test that looks back in a star that goes on", 2, 3,
-     RECORDS(BACK, ATOM(0), DIAMOND(0, 1), TEST(2), STEP, SEQUENCE(3, 4), STAR(5), ATOM(1), DIAMOND(6, 7)),
-     BYTES(2, 0, 2, 0, 0, 2), BYTES(0, 2, 2)},
-    {"always: if p then q in the end", 2, 3,
-     RECORDS(STEP, STAR(0), ATOM(0), TEST(2), STEP, STAR(4), ATOM(1), DIAMOND(5, 6), BOX(3, 7), BOX(1, 8)),
-     BYTES(1, 0, 0, 0, 2, 1), BYTES(1, 1, 1)},
-    {"a test of a box over a star: p always, and q", 2, 3,
-     RECORDS(STEP, STAR(0), ATOM(0), BOX(1, 2), TEST(3), ATOM(1), DIAMOND(4, 5)),
-     BYTES(0, 2, 2, 2, 1, 2), BYTES(0, 1, 1)},
+    {"not not p: an assumption is no refutation; with the whole table", F("[([p?]false)?]false"), "0 1 2",
+     "012 000 000 200 000 000 022"},
+    {"p and q, tested, and r, tested: the least of three", F("<(<(<p?>q)?>r)?>true"), "212", "1"},
+    {"on while p comes next, up to q", F("<((<step>p)? ; step)*>q"), "00 10 22", "122"},
+    {"a test that looks back in a star that goes on", F("<((<back>p)? ; step)*>q"), "20 20 02", "022"},
+    {"always: if p then q in the end", F("[step*][p?]<step*>q"), "10 00 21", "111"},
+    {"a test of a box over a star: p always, and q", F("<([step*]p)?>q"), "02 22 12", "011"},
 };
+
+/* A row's digits are bytes; spaces are between rows. */
+static struct bytes digits(const char *rows, uint8_t *room)
+{
+    struct bytes bytes = {room, 0};
+    for (; *rows; rows++)
+        if (*rows != ' ')
+            room[bytes.size++] = (uint8_t)(*rows - '0');
+    return bytes;
+}
+
+static void expect_valued(const struct valued *v)
+{
+    struct formula room;
+    uint8_t cells[MOST_ATOMS * MOST_INSTANTS], values[MOST_RECORDS * MOST_INSTANTS];
+    const char *last_row = strrchr(v->values, ' ');
+    struct input in = {v->reason, strcspn(v->cells, " "), strlen(last_row ? last_row + 1 : v->values),
+                       records_of(&v->formula, &room), digits(v->cells, cells)};
+    expect_values(in, digits(v->values, values));
+}
 
 /* ---- refused inputs */
 /* Room that is enough for each of them, but for those that are refused for want of it. */
@@ -221,21 +188,20 @@ static void expect_records_refused(const char *reason, struct bytes records, uin
 {
     static const uint8_t zeros[MOST_ATOMS + 1];
     struct bytes cells = {zeros, atoms <= MOST_ATOMS ? (size_t)atoms : MOST_ATOMS + 1};
-    expect_refused(reason, records, atoms, 1, cells, ENOUGH, refusal);
+    expect_refused((struct input){reason, atoms, 1, records, cells}, ENOUGH, refusal);
 }
 
-struct refused {
+#define P RECORDS(ATOM(0))
+#define YES RECORDS(TRUE_)
+#define UNTIL RECORDS(ATOM(0), TEST(0), STEP, SEQUENCE(1, 2), STAR(3), ATOM(1), DIAMOND(4, 5))
+
+static const struct refused {
     const char *reason;
     int refusal;
     uint64_t atoms, instants;
     struct bytes records, cells;
     size_t room;
-};
-
-#define P RECORDS(ATOM(0))
-#define YES RECORDS(TRUE_)
-
-static const struct refused refused[] = {
+} refused[] = {
     ROW(WRONG_LENGTH, "no bytes", 0, 1, NONE, NONE, ENOUGH),
 
     /* atoms, instants, cells */
@@ -252,7 +218,7 @@ static const struct refused refused[] = {
     ROW(WRONG_SIZE, "2^63 instants of 2 atoms, a product of 0 in 64 bits", 2, TWO_TO(63), P, NONE, ENOUGH),
     ROW(WRONG_SIZE, "2^32 atoms at 2^32 instants", TWO_TO(32), TWO_TO(32), P, NONE, ENOUGH),
     ROW(WRONG_SIZE, "2^63 + 1 instants of 2 atoms, a product of 2 in 64 bits", 2, TWO_TO(63) + 1, P, BYTES(0, 0),
-            ENOUGH),
+        ENOUGH),
     ROW(WRONG_SIZE, "2^32 + 1 atoms, whose low half is 1", TWO_TO(32) + 1, 1, P, BYTES(0), ENOUGH),
     ROW(WRONG_SIZE, "2^32 + 1 instants, whose low half is 1", 1, TWO_TO(32) + 1, P, BYTES(0), ENOUGH),
     ROW(WRONG_SIZE, "2^64 - 1 of both, a product of 1 in 64 bits", UINT64_MAX, UINT64_MAX, P, BYTES(0), ENOUGH),
@@ -285,17 +251,17 @@ static void most_records(void)
     static const uint8_t cells[MOST_INSTANTS] = {[MOST_INSTANTS - 1] = 1};
     struct formula most = stars(MOST_RECORDS), more = stars(MOST_RECORDS + 1);
     struct bytes trace = {cells, sizeof cells}, longer = {most.records, size_of(&most) + 1};
+    struct input in = {"O: 255 records at 32 instants", 1, MOST_INSTANTS, bytes_of(&most), trace};
     uint8_t values[MOST_INSTANTS];
     memset(values, 1, sizeof values);
     size_t room = MOST_RECORDS * MOST_INSTANTS;
-    expect_values("O: 255 records at 32 instants", bytes_of(&most), 1, MOST_INSTANTS, trace,
-                  (struct bytes){values, sizeof values});
-    expect_refused("255 records, a byte of room too little", bytes_of(&most), 1, MOST_INSTANTS, trace, room - 1,
-                   PASTUREQUILL_NO_ROOM);
-    expect_refused("O: 256 records", bytes_of(&more), 1, MOST_INSTANTS, trace, room + MOST_INSTANTS,
-                   PASTUREQUILL_WRONG_LENGTH);
-    expect_refused("255 records and a byte", longer, 1, MOST_INSTANTS, trace, room + MOST_INSTANTS,
-                   PASTUREQUILL_WRONG_LENGTH);
+    expect_values(in, (struct bytes){values, sizeof values});
+    in.reason = "255 records, a byte of room too little";
+    expect_refused(in, room - 1, PASTUREQUILL_NO_ROOM);
+    in = (struct input){"O: 256 records", 1, MOST_INSTANTS, bytes_of(&more), trace};
+    expect_refused(in, room + MOST_INSTANTS, PASTUREQUILL_WRONG_LENGTH);
+    in = (struct input){"255 records and a byte", 1, MOST_INSTANTS, longer, trace};
+    expect_refused(in, room + MOST_INSTANTS, PASTUREQUILL_WRONG_LENGTH);
 }
 
 /* Not, 84 times, of p next: each not is three records, one test inside the other. As the number is even, the value is 2
@@ -311,8 +277,8 @@ static void deepest_tests(void)
         cells[k] = k % 3;
     for (size_t k = 0; k < MOST_INSTANTS; k++)
         values[k] = k + 1 < MOST_INSTANTS && cells[k + 1] != 0 ? 2 : 0;
-    expect_values("255 records, 84 tests inside each other", bytes_of(&f), 1, MOST_INSTANTS,
-                  (struct bytes){cells, sizeof cells}, (struct bytes){values, sizeof values});
+    expect_values((struct input){"255 records, 84 tests inside each other", 1, MOST_INSTANTS, bytes_of(&f),
+                                 {cells, sizeof cells}}, (struct bytes){values, sizeof values});
 }
 
 /* O: 32 instants are taken, and 33 are not, though the cells fit. p until q, where p is only assumed at instant 15. */
@@ -325,31 +291,31 @@ static void most_instants(void)
     }
     for (size_t k = 0; k < MOST_INSTANTS; k++)
         values[k] = k <= 15 ? 1 : 2;
-    expect_values("O: 32 instants", (struct bytes)UNTIL, 2, MOST_INSTANTS, (struct bytes){cells, 2 * MOST_INSTANTS},
-                  (struct bytes){values, sizeof values});
-    expect_refused("O: 33 instants", (struct bytes)UNTIL, 2, MOST_INSTANTS + 1, (struct bytes){cells, sizeof cells},
-                   7 * (MOST_INSTANTS + 1), PASTUREQUILL_WRONG_SIZE);
+    struct input taken = {"O: 32 instants", 2, MOST_INSTANTS, UNTIL, {cells, 2 * MOST_INSTANTS}};
+    struct input longer = {"O: 33 instants", 2, MOST_INSTANTS + 1, UNTIL, {cells, sizeof cells}};
+    expect_values(taken, (struct bytes){values, sizeof values});
+    expect_refused(longer, table_size(&longer), PASTUREQUILL_WRONG_SIZE);
 }
 
 /* 32 atoms at 32 instants: the last atom has the last cell of each row. Any one cell of 3 is refused. */
 static void most_cells(void)
 {
+    static const size_t places[] = {0, 30, 31, 32, 1000, 1022, 1023};
     uint8_t cells[MOST_ATOMS * MOST_INSTANTS], values[MOST_INSTANTS];
     for (size_t k = 0; k < MOST_INSTANTS; k++)
         for (size_t i = 0; i < MOST_ATOMS; i++)
             cells[MOST_ATOMS * k + i] = (k + 2 * i) % 3;
     for (size_t k = 0; k < MOST_INSTANTS; k++)
         values[k] = cells[MOST_ATOMS * (k + 1) - 1];
-    struct bytes last_atom = RECORDS(ATOM(MOST_ATOMS - 1)), trace = {cells, sizeof cells};
-    expect_values("32 atoms at 32 instants", last_atom, MOST_ATOMS, MOST_INSTANTS, trace,
-                  (struct bytes){values, sizeof values});
-    static const size_t places[] = {0, 30, 31, 32, 1000, 1022, 1023};
-    for (size_t i = 0; i < sizeof places / sizeof *places; i++) {
-        uint8_t kept = cells[places[i]];
-        cells[places[i]] = 3;
-        expect_refused("O: one cell of 3 among 1,024", last_atom, MOST_ATOMS, MOST_INSTANTS, trace, MOST_INSTANTS,
-                       PASTUREQUILL_WRONG_CELL);
-        cells[places[i]] = kept;
+    struct input in = {"32 atoms at 32 instants", MOST_ATOMS, MOST_INSTANTS, RECORDS(ATOM(MOST_ATOMS - 1)),
+                       {cells, sizeof cells}};
+    expect_values(in, (struct bytes){values, sizeof values});
+    in.reason = "O: one cell of 3 among 1,024";
+    for (const size_t *place = places; place < END(places); place++) {
+        uint8_t kept = cells[*place];
+        cells[*place] = 3;
+        expect_refused(in, MOST_INSTANTS, PASTUREQUILL_WRONG_CELL);
+        cells[*place] = kept;
     }
 }
 
@@ -371,14 +337,10 @@ static void no_addresses(void)
 
 int main(void)
 {
-    for (size_t i = 0; i < sizeof valued / sizeof *valued; i++) {
-        const struct valued *v = valued + i;
-        expect_values(v->reason, v->records, v->atoms, v->instants, v->cells, v->values);
-    }
-    for (size_t i = 0; i < sizeof refused / sizeof *refused; i++) {
-        const struct refused *v = refused + i;
-        expect_refused(v->reason, v->records, v->atoms, v->instants, v->cells, v->room, v->refusal);
-    }
+    for (const struct valued *v = valued; v < END(valued); v++)
+        expect_valued(v);
+    for (const struct refused *v = refused; v < END(refused); v++)
+        expect_refused((struct input){v->reason, v->atoms, v->instants, v->records, v->cells}, v->room, v->refusal);
     expect_faulty(expect_records_refused);
     expect_shorthands_refused(expect_records_refused);
     most_records();
