@@ -8,27 +8,7 @@
 
 enum { A, B, ATOMS, MOST_INSTANTS = 5 };
 
-/* [step*]b */
-static size_t always_b(struct formula *f)
-{
-    size_t way = star(f, step(f));
-    return box(f, way, atom(f, B));
-}
-
-/* <([step*]b)? ; step>a */
-static size_t one_modality(struct formula *f)
-{
-    size_t tested = test(f, always_b(f));
-    size_t way = sequence(f, tested, step(f));
-    return diamond(f, way, atom(f, A));
-}
-
-/* [step*]b and <step>a */
-static size_t two_parts(struct formula *f)
-{
-    size_t always = always_b(f), on = step(f);
-    return both(f, always, diamond(f, on, atom(f, A)));
-}
+static const char names[] = "ab", one_modality[] = "<([step*]b)? ; step>a", two_parts[] = "[step*]b and <step>a";
 
 static const struct claim claims[] = {
     {"figure 2, accepted: {b}, {a, b}, {b}", {"020", "222"}, "200"},
@@ -53,10 +33,7 @@ static int accepts(const struct trace *t)
     return state == 4;
 }
 
-static int is_total(const struct trace *t)
-{
-    return memchr(t->cells, 1, t->atoms * t->instants) == NULL;
-}
+static int is_total(const struct trace *t) { return memchr(t->cells, 1, t->atoms * t->instants) == NULL; }
 
 /* ---- all traces */
 struct counts {
@@ -79,9 +56,8 @@ static void compare(const struct formula *one, const struct formula *two, const 
 
 static void compare_all(const struct formula *one)
 {
-    struct formula two = {.n = 0};
+    struct formula two = formula_of(names, two_parts);
     struct counts c = {0};
-    two_parts(&two);
     for (size_t instants = 1; instants <= MOST_INSTANTS; instants++) {
         struct trace t = {.atoms = ATOMS, .instants = instants};
         do
@@ -97,12 +73,11 @@ static void compare_all(const struct formula *one)
 
 int main(void)
 {
-    struct formula f = {.n = 0};
-    one_modality(&f);
-    printf("(1)  <([step*]b)? ; step>a\n");
+    struct formula f = formula_of(names, one_modality);
+    printf("(1)  %s\n", one_modality);
     show_rules(&f, ATOMS, 23);
     for (size_t i = 0; i < sizeof claims / sizeof *claims; i++)
-        show_claim(&claims[i], "ab", "(1)", &f);
+        show_claim(&claims[i], names, "(1)", &f);
     compare_all(&f);
     printf("\n");
     return status();

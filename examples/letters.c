@@ -5,15 +5,13 @@
 #include "worked.h"
 
 /* ---- N */
-static void show_n(const char *written, size_t (*modality)(struct formula *f, size_t path, size_t end), uint8_t due)
+static void show_n(const char *text, uint8_t due)
 {
-    struct formula f = {.n = 0};
-    size_t on = step(&f);
-    modality(&f, on, atom(&f, 0));
+    struct formula f = formula_of("p", text);
     for (uint8_t p = 0; p <= 2; p++) {
         struct trace t = {.atoms = 1, .instants = 1, .cells = {p}};
         uint8_t value = value_at_first(&f, &t);
-        printf("  %s where p is %d: %d   %s\n", written, p, value, word(value == due));
+        printf("  %s where p is %d: %d   %s\n", text, p, value, word(value == due));
     }
 }
 
@@ -77,8 +75,8 @@ int main(void)
 {
     static const uint8_t zeros[MOST_INSTANTS + 1], in_p[] = {3, 0}, beside_p[] = {0, 3};
     printf("N  over one instant\n");
-    show_n("[step]p", box, 2);
-    show_n("<step>p", diamond, 0);
+    show_n("[step]p", 2);
+    show_n("<step>p", 0);
     printf("\nO  taken, 0, or refused\n");
     show_longest();
     show_too_long();

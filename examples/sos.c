@@ -9,77 +9,19 @@
 
 enum { H, S, ATOMS };
 
-static size_t no_help(struct formula *f)
-{
-    return not_so(f, atom(f, H));
-}
+static const char names[] = "hs";
 
-static size_t no_sos(struct formula *f)
-{
-    return not_so(f, atom(f, S));
-}
+/* Formula (1), and five steps. At their end is a test of true, which the paper takes as the repetition no times. */
+#define KEEP_SENDING "[(not h? ; step)*](not h implies s)"
+#define HELP_AFTER_FIVE "<step ; step ; step ; step ; step ; true?>h"
 
-/* Formula (1): [(not h? ; step)*](not h implies s). */
-static size_t keep_sending(struct formula *f)
-{
-    size_t way = star(f, go_if(f, no_help(f)));
-    size_t still = no_help(f);
-    return box(f, way, implies(f, still, atom(f, S)));
-}
-
-/* The path of no move, which the paper takes as the repetition no times of any path: true?. */
-static size_t stay(struct formula *f)
-{
-    return test(f, yes(f));
-}
-
-/* <step^5>h */
-static size_t help_after_five(struct formula *f)
-{
-    size_t way = stay(f);
-    for (int i = 0; i < 5; i++) {
-        size_t on = step(f);
-        way = sequence(f, on, way);
-    }
-    return diamond(f, way, atom(f, H));
-}
-
-static size_t sending_and_help(struct formula *f)
-{
-    size_t kept = keep_sending(f);
-    return both(f, kept, help_after_five(f));
-}
-
-/* ---- what the paper says of the stable traces, as formulas */
-/* No help, and an sos. */
-static size_t sending(struct formula *f)
-{
-    size_t alone = no_help(f);
-    return both(f, alone, atom(f, S));
-}
-
-/* [step*](not h and s) */
-static size_t always_sending(struct formula *f)
-{
-    size_t way = star(f, step(f));
-    return box(f, way, sending(f));
-}
-
-/* <(not h and s)^5 ; (h and not s) ; (not h and not s)*>true. Each formula in the path is tested and time steps on, so
- * that the path asks for an instant after the one of the help. */
-static size_t sent_five_times(struct formula *f)
-{
-    size_t alone = no_help(f);
-    size_t after = star(f, go_if(f, both(f, alone, no_sos(f))));
-    size_t help = atom(f, H);
-    size_t helped = go_if(f, both(f, help, no_sos(f)));
-    size_t way = sequence(f, helped, after);
-    for (int i = 0; i < 5; i++) {
-        size_t sent = go_if(f, sending(f));
-        way = sequence(f, sent, way);
-    }
-    return diamond(f, way, yes(f));
-}
+/* What the paper says of the stable traces, as formulas: [step*](not h and s), and
+ * <(not h and s)^5 ; (h and not s) ; (not h and not s)*>true. Each formula in the second one's path is tested and time
+ * steps on, so that the path asks for an instant after the one of the help. */
+#define SENT "(not h and s)? ; step ; "
+static const char always_sending[] = "[step*](not h and s)";
+static const char sent_five_times[] =
+    "<" SENT SENT SENT SENT SENT "(h and not s)? ; step ; ((not h and not s)? ; step)*>true";
 
 /* ---- formula (1) on single traces */
 static const struct claim claims[] = {
@@ -93,12 +35,11 @@ static const struct claim claims[] = {
 
 static void show_claims(void)
 {
-    struct formula f = {.n = 0};
-    keep_sending(&f);
-    printf("(1)  [(not h? ; step)*](not h implies s)\n");
+    struct formula f = formula_of(names, KEEP_SENDING);
+    printf("(1)  %s\n", KEEP_SENDING);
     show_rules(&f, ATOMS, 43);
     for (size_t i = 0; i < sizeof claims / sizeof *claims; i++)
-        show_claim(&claims[i], "hs", "(1)", &f);
+        show_claim(&claims[i], names, "(1)", &f);
 }
 
 /* ---- stable traces */
@@ -127,10 +68,7 @@ static int next_lower(struct trace *t)
     return 0;
 }
 
-static int satisfies(const struct trace *t, const struct formula *f)
-{
-    return value_at_first(f, t) == 2;
-}
+static int satisfies(const struct trace *t, const struct formula *f) { return value_at_first(f, t) == 2; }
 
 /* Whether no trace below a total one satisfies the formula. */
 static int least(struct trace t, const struct formula *f)
@@ -207,19 +145,16 @@ static void show_stable(const struct formula *f, const struct due *due)
     }
     char letters[PASTUREQUILL_MOST_INSTANTS + 1];
     write_letters(&found.last, letters);
-    struct formula always = {.n = 0}, five = {.n = 0};
-    always_sending(&always);
-    sent_five_times(&five);
+    struct formula always = formula_of(names, always_sending), five = formula_of(names, sent_five_times);
     uint8_t is_always = value_at_first(&always, &found.last), is_five = value_at_first(&five, &found.last);
     int same =
         found.stable == 1 && strcmp(letters, due->letters) == 0 && is_always == due->always && is_five == due->five;
     printf("  %-8s  %6d  %6d   %s%s\n", letters, is_always, is_five, word(same), due->but);
 }
 
-static void show_all_stable(const char *heading, size_t (*build)(struct formula *f), const struct due *dues, size_t n)
+static void show_all_stable(const char *heading, const char *text, const struct due *dues, size_t n)
 {
-    struct formula f = {.n = 0};
-    build(&f);
+    struct formula f = formula_of(names, text);
     printf("\n%s\n  instants  traces  satisfy  stable  it is     always  5 times\n", heading);
     for (size_t i = 0; i < n; i++)
         show_stable(&f, &dues[i]);
@@ -228,9 +163,9 @@ static void show_all_stable(const char *heading, size_t (*build)(struct formula 
 int main(void)
 {
     show_claims();
-    show_all_stable("the stable traces of (1), among all total traces", keep_sending, without_help,
+    show_all_stable("the stable traces of (1), among all total traces", KEEP_SENDING, without_help,
                     sizeof without_help / sizeof *without_help);
-    show_all_stable("the stable traces of (1) and <step^5>h", sending_and_help, with_help,
+    show_all_stable("the stable traces of (1) and <step^5>h", KEEP_SENDING " and " HELP_AFTER_FIVE, with_help,
                     sizeof with_help / sizeof *with_help);
     printf("\n  always   [step*](not h and s)\n"
            "  5 times  <(not h and s)^5 ; (h and not s) ; (not h and not s)*>true\n\n");

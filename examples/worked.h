@@ -3,9 +3,27 @@
 #ifndef WORKED_H
 #define WORKED_H
 
-#include <string.h>
+#include "written.h"
 
-#include "formula.h"
+/* For what the library must take. */
+static inline void must_be_accepted(const char *service, uint8_t refusal)
+{
+    if (refusal != PASTUREQUILL_ACCEPTED) {
+        fprintf(stderr, "%s refused: %d\n", service, refusal);
+        exit(2);
+    }
+}
+
+/* The formula that a text says, over atoms with these letters, its shorthands written out. */
+static inline struct formula formula_of(const char *atoms, const char *text)
+{
+    struct formula brief = written(atoms, text), core = {.n = 0};
+    pasturequill_counted c =
+        pasturequill_expand(brief.records, size_of(&brief), strlen(atoms), core.records, MOST_BYTES);
+    must_be_accepted("expanding", c.refusal);
+    core.n = (size_t)c.count;
+    return core;
+}
 
 /* ---- traces */
 struct trace {
@@ -36,10 +54,7 @@ static inline int next_cells(uint8_t *cells, size_t n)
     return 0;
 }
 
-static inline int next_trace(struct trace *t)
-{
-    return next_cells(t->cells, t->atoms * t->instants);
-}
+static inline int next_trace(struct trace *t) { return next_cells(t->cells, t->atoms * t->instants); }
 
 /* ---- values */
 /* A formula's values at each instant, for a formula and a trace that the library takes; gives the one at the first. */
@@ -48,10 +63,7 @@ static inline uint8_t value_row(const struct formula *f, const struct trace *t, 
     static uint8_t table[MOST_RECORDS * PASTUREQUILL_MOST_INSTANTS];
     pasturequill_valued v = pasturequill_value(f->records, size_of(f), t->atoms, t->instants, t->cells,
                                                t->atoms * t->instants, table, sizeof table);
-    if (v.refusal != PASTUREQUILL_ACCEPTED) {
-        fprintf(stderr, "valuing refused: %d\n", v.refusal);
-        exit(2);
-    }
+    must_be_accepted("valuing", v.refusal);
     memcpy(row, table + (f->n - 1) * t->instants, t->instants);
     return v.value;
 }

@@ -21,10 +21,7 @@ static inline struct elevator elevator_at_first(int floors)
     return (struct elevator){.floors = floors, .floor = floors / 2, .called = 1u | 1u << (floors - 1)};
 }
 
-static inline int is_called(const struct elevator *e, int floor)
-{
-    return e->called >> floor & 1;
-}
+static inline int is_called(const struct elevator *e, int floor) { return e->called >> floor & 1; }
 
 /* The cells of an instant's atoms; 0 is no action. */
 static inline void put_instant(const struct elevator *e, char action, uint8_t *cells)
@@ -63,9 +60,6 @@ static inline size_t kept(struct formula *f, size_t ready)
 }
 
 /* Rule (13). It is a constraint, so the formula is twice negated. */
-static inline size_t rule_13(struct formula *f, size_t ready)
-{
-    return not_so(f, not_so(f, kept(f, ready)));
-}
+static inline size_t rule_13(struct formula *f, size_t ready) { return not_so(f, not_so(f, kept(f, ready))); }
 
 #endif

@@ -19,27 +19,13 @@ struct Core {
     parts: Vec<Core>,
 }
 
-fn leaf(kind: u8) -> Core {
-    Core { kind, atom: 0, parts: vec![] }
-}
-fn one(kind: u8, part: Core) -> Core {
-    Core { kind, atom: 0, parts: vec![part] }
-}
-fn two(kind: u8, first: Core, second: Core) -> Core {
-    Core { kind, atom: 0, parts: vec![first, second] }
-}
-fn test(f: Core) -> Core {
-    one(TEST, f)
-}
-fn star(p: Core) -> Core {
-    one(STAR, p)
-}
-fn some(p: Core, f: Core) -> Core {
-    two(DIAMOND, p, f)
-}
-fn all(p: Core, f: Core) -> Core {
-    two(BOX, p, f)
-}
+fn leaf(kind: u8) -> Core { Core { kind, atom: 0, parts: vec![] } }
+fn one(kind: u8, part: Core) -> Core { Core { kind, atom: 0, parts: vec![part] } }
+fn two(kind: u8, first: Core, second: Core) -> Core { Core { kind, atom: 0, parts: vec![first, second] } }
+fn test(f: Core) -> Core { one(TEST, f) }
+fn star(p: Core) -> Core { one(STAR, p) }
+fn some(p: Core, f: Core) -> Core { two(DIAMOND, p, f) }
+fn all(p: Core, f: Core) -> Core { two(BOX, p, f) }
 
 /// What record r stands for.
 fn core(formula: &Formula, r: usize) -> Core {
@@ -90,6 +76,7 @@ fn expansion(formula: &Formula) -> Vec<Record> {
 
 /// An input, what must come back, and what must be written. `out` is how many records come out of a formula, taken or
 /// not.
+#[derive(Debug)]
 struct Tried {
     input: Input,
     refusal: Refusal,
@@ -178,14 +165,12 @@ fn input_of(random: &mut Random, formula: Formula) -> Input {
         let needed = RECORD_SIZE * records;
         random.pick(&[0, MOST_RECORD_BYTES - 1, MOST_RECORD_BYTES, needed - 1, needed, 7000])
     } else {
-        RECORD_SIZE * records + if random.percent(50) { 0 } else { random.between(1, 100) }
+        RECORD_SIZE * records + spare(random)
     };
     Input { formula, room }
 }
 
-fn is_shorthand(kind: u8) -> bool {
-    (NOT..=SINCE).contains(&kind)
-}
+fn is_shorthand(kind: u8) -> bool { (NOT..=SINCE).contains(&kind) }
 
 fn arguments(shorthand: u8) -> usize {
     SHORTHANDS.iter().position(|kinds| kinds.contains(&shorthand)).expect("each shorthand is among them")
@@ -265,7 +250,7 @@ fn unsettled(library: &mut Library, random: &mut Random, core: &[u8], atoms: u64
 }
 
 /// Calls the library on an input and says what is wrong with the outcome, if anything is.
-fn difference(library: &mut Library, random: &mut Random, tried: &Tried) -> Option<String> {
+fn difference(tried: &Tried, random: &mut Random, library: &mut Library) -> Option<String> {
     let Tried { input: Input { formula, room }, refusal, written, .. } = tried;
     let wrong = expand_difference(library, random, (&formula.records, formula.atoms), *room, *refusal, written);
     match (wrong, refusal) {
@@ -282,9 +267,7 @@ const NAMES: [&str; 16] = [
     "always", "once", "so far", "until", "since",
 ];
 
-fn shorthand_name(kind: u8) -> String {
-    NAMES[(kind - NOT) as usize].to_string()
-}
+fn shorthand_name(kind: u8) -> String { NAMES[(kind - NOT) as usize].to_string() }
 
 /// A shorthand as an argument of another one.
 fn nested(outer: u8, field: usize, inner: u8) -> String {
@@ -321,9 +304,7 @@ fn postorder(formula: &Formula, r: usize, order: &mut Vec<usize>) {
 }
 
 impl Tried {
-    fn accepted(&self) -> bool {
-        self.refusal == Accepted
-    }
+    fn accepted(&self) -> bool { self.refusal == Accepted }
     fn accepted_with(&self, shorthands: bool) -> bool {
         self.accepted() && shorthands != self::shorthands(&self.input.formula).is_empty()
     }
@@ -369,24 +350,21 @@ const CASES: [Case<Tried>; 19] = [
     ("not a tree by an argument of a shorthand", |t| t.refusal == NotATree && t.argument_shared()),
 ];
 
+/// First every number of records in and every number out, undamaged; then whatever comes. No two records come out of a
+/// formula.
+fn drawn(random: &mut Random, i: usize) -> Tried {
+    let formula = match (i, i.checked_sub(MOST_RECORDS)) {
+        (1..=MOST_RECORDS, _) => formula_in(random, i, if i == 2 { 100 } else { 0 }),
+        (_, Some(out @ (1 | 3..=MOST_RECORDS))) => formula_out(random, out),
+        _ => return tried(random_input(random)),
+    };
+    tried(input_of(random, formula))
+}
+
 fn main() {
-    let mut library = Library::started();
-    let mut random = Random::seeded();
-    let mut comparison = Comparison::of("compare the expander", 80_000, |i, seen| {
-        // First every number of records in and every number out, undamaged; then whatever comes. No two records come
-        // out of a formula.
-        let formula = match (i, i.checked_sub(MOST_RECORDS)) {
-            (1..=MOST_RECORDS, _) => Some(formula_in(&mut random, i, if i == 2 { 100 } else { 0 })),
-            (_, Some(out @ (1 | 3..=MOST_RECORDS))) => Some(formula_out(&mut random, out)),
-            _ => None,
-        };
-        let input = match formula {
-            Some(formula) => input_of(&mut random, formula),
-            None => random_input(&mut random),
-        };
-        let tried = tried(input);
+    let mut comparison = Comparison::of("compare the expander", 80_000, drawn, |tried, random, library, seen| {
         seen.add(tried.refusal.name());
-        seen.add_cases(&CASES, &tried);
+        seen.add_cases(&CASES, tried);
         if tried.accepted() {
             let formula = &tried.input.formula;
             seen.add(format!("{} records in", formula.count()));
@@ -394,11 +372,8 @@ fn main() {
             seen.add(format!("{} atoms", formula.atoms));
             count_shorthands(seen, formula);
         }
-        let what = difference(&mut library, &mut random, &tried)?;
-        let Input { formula, room } = tried.input;
-        Some(format!("{what}\n  records {}\n  atoms {}, room for {room} bytes", hex(&formula.records), formula.atoms))
+        difference(tried, random, library)
     });
-
     comparison.tell(100, outcomes(&[NoRoom, TooLong]));
     comparison.tell(100, names(&CASES));
     comparison.tell(100, (NOT..=SINCE).map(shorthand_name).collect());

@@ -127,29 +127,25 @@ fn unmeant(library: &mut Library, formula: &Formula, instants: usize, cells: &[u
 
 // ---- the run
 
-fn main() {
-    let mut library = Library::started();
-    let mut random = Random::seeded();
-    let mut comparison = Comparison::of("compare the fillings", 12_000, |_, seen| {
-        let size = random.pick(&[1, 3, 4, 4, 5, 5, 5, 6, 6, 7, 7, 8]);
-        let atoms = random.pick(&[0, 1, 2, 2]);
-        let instants = random.pick(&[1, 2, 2, 3, 3]);
-        let formula = formula_over(&mut random, size, true, 0, atoms);
-        let cells = random_cells(&mut random, atoms, instants);
-        count_kinds(seen, &Tree::new(&formula));
-        seen.add(format!("{instants} instants"));
-        match unmeant(&mut library, &formula, instants, &cells) {
-            Ok(value) => {
-                seen.add(format!("value {value}"));
-                None
-            }
-            Err(what) => {
-                let (records, cells) = (hex(&formula.records), hex(&cells));
-                Some(format!("{what}\n  records {records}\n  atoms {atoms}, instants {instants}, cells {cells}"))
-            }
-        }
-    });
+/// A formula, how many instants there are, and the cells of its atoms.
+type Input = (Formula, usize, Vec<u8>);
 
+fn drawn(random: &mut Random, _: usize) -> Input {
+    let size = random.pick(&[1, 3, 4, 4, 5, 5, 5, 6, 6, 7, 7, 8]);
+    let atoms = random.pick(&[0, 1, 2, 2]);
+    let instants = random.pick(&[1, 2, 2, 3, 3]);
+    let formula = formula_over(random, size, true, 0, atoms);
+    (formula, instants, random_cells(random, atoms, instants))
+}
+
+fn main() {
+    let mut comparison =
+        Comparison::of("compare the fillings", 12_000, drawn, |(formula, instants, cells), _, library, seen| {
+            count_kinds(seen, &Tree::new(formula));
+            seen.add(format!("{instants} instants"));
+            let value = unmeant(library, formula, *instants, cells);
+            value.map(|value| seen.add(format!("value {value}"))).err()
+        });
     comparison.tell(100, (1..=3).map(|instants| format!("{instants} instants")).collect());
     comparison.tell(100, (0..3).map(|value| format!("value {value}")).collect());
     comparison.tell(100, kind_names());

@@ -9,6 +9,7 @@ mod shared;
 use shared::*;
 
 /// What is handed to the library.
+#[derive(Debug)]
 struct Input {
     rules: Vec<u16>,
     width: u64,
@@ -18,12 +19,8 @@ struct Input {
 
 impl Input {
     /// The whole rules among the words.
-    fn whole_rules(&self) -> impl Iterator<Item = &[u16]> {
-        self.rules.chunks_exact(RULE_SIZE)
-    }
-    fn count(&self) -> usize {
-        self.rules.len() / RULE_SIZE
-    }
+    fn whole_rules(&self) -> impl Iterator<Item = &[u16]> { self.rules.chunks_exact(RULE_SIZE) }
+    fn count(&self) -> usize { self.rules.len() / RULE_SIZE }
 }
 
 // ---- rules over a filled trace (Specification, Translation and Judging)
@@ -42,19 +39,9 @@ fn first_failure(input: &Input) -> Option<(usize, usize)> {
 
 // ---- what is refused (Specification, Refusals)
 
-/// Why an input is refused, in the order of the table's lines.
+/// Why an input is refused.
 #[derive(Clone, Copy, PartialEq, Debug)]
-enum Cause {
-    Width,
-    Instants,
-    CellCount,
-    NotSixes,
-    TooManyRules,
-    Place,
-    Symbol,
-    Previous,
-    CellOver2,
-}
+enum Cause { Width, Instants, CellCount, NotSixes, TooManyRules, Place, Symbol, Previous, CellOver2 }
 
 impl Cause {
     fn refusal(self) -> Refusal {
@@ -90,7 +77,7 @@ fn causes(input: &Input) -> Vec<Cause> {
 }
 
 /// What must come of an input.
-#[derive(PartialEq)]
+#[derive(PartialEq, Debug)]
 enum Verdict {
     Refused(Refusal),
     Yes,
@@ -99,6 +86,7 @@ enum Verdict {
 }
 
 /// An input, every cause to refuse it, and what must come of it.
+#[derive(Debug)]
 struct Tried {
     input: Input,
     causes: Vec<Cause>,
@@ -158,9 +146,7 @@ impl Drawn<'_> {
         rule
     }
 
-    fn failing(&self, rule: &[u16]) -> Option<usize> {
-        failing(self.width, self.instants, &self.cells, rule)
-    }
+    fn failing(&self, rule: &[u16]) -> Option<usize> { failing(self.width, self.instants, &self.cells, rule) }
 
     /// A rule that holds at all its instants: one of a few that were drawn, or one made so that it does.
     fn holding_rule(&mut self) -> [u16; RULE_SIZE] {
@@ -247,24 +233,24 @@ fn accepted_input(random: &mut Random) -> Input {
 
 // ---- damage
 
-/// Some word of a rule's body or head.
-fn some_literal(random: &mut Random, input: &Input) -> usize {
-    RULE_SIZE * random.below(input.count()) + random.between(1, RULE_SIZE - 1)
+/// Some word of the body or head of one of so many rules.
+fn some_literal(random: &mut Random, rules: usize) -> usize {
+    RULE_SIZE * random.below(rules) + random.between(1, RULE_SIZE - 1)
 }
 
-/// As many cells as width and instants ask for, where that is few enough.
-fn fit_cells(input: &mut Input) {
-    if input.width <= 1000 && input.instants <= 64 {
+/// As many cells as width and instants ask for, most of the time, where that is few enough.
+fn fit_cells_mostly(random: &mut Random, input: &mut Input) {
+    let fitted = random.percent(80);
+    if fitted && input.width <= 1000 && input.instants <= 64 {
         input.cells.resize((input.width * input.instants) as usize, 1);
-    } else if input.width == 0 || input.instants == 0 {
+    } else if fitted && (input.width == 0 || input.instants == 0) {
         input.cells.clear();
     }
 }
 
 /// One kind of harm, which may or may not make the input wrong: what must come of it is for `tried` to say.
 fn damage(random: &mut Random, input: &mut Input) {
-    let n = input.count();
-    let words = input.rules.len();
+    let (n, words) = (input.count(), input.rules.len());
     match random.below(27) {
         // the number of words
         0 => input.rules.truncate(words.saturating_sub(random.between(1, RULE_SIZE - 1))),
@@ -276,47 +262,7 @@ fn damage(random: &mut Random, input: &mut Input) {
                 input.rules.extend(&last);
             }
         }
-        // any word
-        3 | 4 if words > 0 => {
-            let at = random.below(words);
-            input.rules[at] ^= 1 << random.below(16);
-        }
-        5 if words > 0 => {
-            let at = random.below(words);
-            input.rules[at] = random.next() as u16;
-        }
-        // the place, wrong or another one
-        6 | 7 if n > 0 => {
-            let at = RULE_SIZE * random.below(n);
-            let old = input.rules[at];
-            input.rules[at] =
-                random.pick(&[4, 5, 7, 255, 256, 256 | old, MARK_PREVIOUS | old, MARK_NOT | old, u16::MAX]);
-        }
-        8 if n > 0 => {
-            let at = RULE_SIZE * random.below(n);
-            input.rules[at] = random.below(AT_LAST as usize + 1) as u16;
-        }
-        // the symbol: the first that is past the last column, and others
-        9 | 10 if n > 0 => {
-            let at = some_literal(random, input);
-            let past = SYMBOL_COLUMN + (input.width % 10_000) as u16;
-            let marks = input.rules[at] - literal(input.rules[at]).symbol;
-            input.rules[at] = marks + random.pick(&[past, past, past + 1, 289, 290, 512, MARK_PREVIOUS - 1]);
-        }
-        // the marks
-        11 if n > 0 => {
-            let at = some_literal(random, input);
-            input.rules[at] ^= MARK_NOT;
-        }
-        12 | 13 if n > 0 => {
-            let at = some_literal(random, input);
-            input.rules[at] |= MARK_PREVIOUS;
-        }
-        14 | 15 if n > 0 => {
-            let at = some_literal(random, input);
-            let [no, yes] = [SYMBOL_FALSE + MARK_PREVIOUS, SYMBOL_TRUE + MARK_PREVIOUS];
-            input.rules[at] = random.pick(&[no, yes, MARK_NOT + no, MARK_NOT + yes, MARK_NOT + no, MARK_NOT + yes]);
-        }
+        harm @ 3..=15 if words > 0 => damage_word(random, &mut input.rules, input.width, harm),
         // a body that is true and a head that is false
         16 if n > 0 => {
             let at = RULE_SIZE * random.below(n);
@@ -327,16 +273,12 @@ fn damage(random: &mut Random, input: &mut Input) {
         17 => {
             let far = [1 << 32, (1 << 32) + input.width, 1 << 63, u64::MAX, u64::MAX - 1];
             input.width = random.pick(&[&[288, 288, 289, 300, 1000, 65_535], &far[..]].concat());
-            if random.percent(80) {
-                fit_cells(input);
-            }
+            fit_cells_mostly(random, input);
         }
         18 => {
             let far = [1 << 32, (1 << 32) + input.instants, 1 << 63, u64::MAX];
             input.instants = random.pick(&[&[0, 0, 33, 33, 34, 64, 256], &far[..]].concat());
-            if random.percent(80) {
-                fit_cells(input);
-            }
+            fit_cells_mostly(random, input);
         }
         19 => {
             (input.width, input.instants) = random.pick(&[&NO_CELLS[..], &[(288, 0)]].concat());
@@ -345,10 +287,38 @@ fn damage(random: &mut Random, input: &mut Input) {
         // cells, wrong or others
         harm @ 20..=24 => damage_cells(random, &mut input.cells, input.width, harm - 20),
         25 | 26 if !input.cells.is_empty() => {
-            let at = random.below(input.cells.len());
-            input.cells[at] = random.below(3) as u8;
+            change(random.below(input.cells.len()), &mut input.cells, |_| random.below(3) as u8)
         }
         _ => {}
+    }
+}
+
+/// One of thirteen kinds of harm to a word, and to a rule's only where there is a whole one.
+fn damage_word(random: &mut Random, words: &mut [u16], width: u64, harm: usize) {
+    let n = words.len() / RULE_SIZE;
+    match harm {
+        // any word
+        3 | 4 => change(random.below(words.len()), words, |word| word ^ 1 << random.below(16)),
+        5 => change(random.below(words.len()), words, |_| random.next() as u16),
+        _ if n == 0 => {}
+        // the place, wrong or another one
+        6 | 7 => change(RULE_SIZE * random.below(n), words, |old| {
+            random.pick(&[4, 5, 7, 255, 256, 256 | old, MARK_PREVIOUS | old, MARK_NOT | old, u16::MAX])
+        }),
+        8 => change(RULE_SIZE * random.below(n), words, |_| random.below(AT_LAST as usize + 1) as u16),
+        // the symbol: the first that is past the last column, and others
+        9 | 10 => change(some_literal(random, n), words, |old| {
+            let past = SYMBOL_COLUMN + (width % 10_000) as u16;
+            let marks = old - literal(old).symbol;
+            marks + random.pick(&[past, past, past + 1, 289, 290, 512, MARK_PREVIOUS - 1])
+        }),
+        // the marks
+        11 => change(some_literal(random, n), words, |word| word ^ MARK_NOT),
+        12 | 13 => change(some_literal(random, n), words, |word| word | MARK_PREVIOUS),
+        _ => change(some_literal(random, n), words, |_| {
+            let [no, yes] = [SYMBOL_FALSE + MARK_PREVIOUS, SYMBOL_TRUE + MARK_PREVIOUS];
+            random.pick(&[no, yes, MARK_NOT + no, MARK_NOT + yes, MARK_NOT + no, MARK_NOT + yes])
+        }),
     }
 }
 
@@ -382,7 +352,7 @@ fn random_input(random: &mut Random) -> Input {
 // ---- the call
 
 /// Calls the library on an input and says what is wrong with the outcome, if anything is.
-fn difference(library: &mut Library, tried: &Tried) -> Option<String> {
+fn difference(tried: &Tried, library: &mut Library) -> Option<String> {
     let input = &tried.input;
     let lent = [Lent::to_read("rules", &as_bytes(&input.rules)), Lent::to_read("cells", &input.cells)];
     let answer = match tried.verdict {
@@ -396,23 +366,13 @@ fn difference(library: &mut Library, tried: &Tried) -> Option<String> {
 // ---- the run
 
 impl Tried {
-    fn caused(&self, refusal: Refusal) -> bool {
-        self.causes.iter().any(|cause| cause.refusal() == refusal)
-    }
-    fn judged(&self) -> bool {
-        self.causes.is_empty()
-    }
+    fn caused(&self, refusal: Refusal) -> bool { self.causes.iter().any(|cause| cause.refusal() == refusal) }
+    fn judged(&self) -> bool { self.causes.is_empty() }
     /// A yes to a given number of rules.
-    fn yes(&self, rules: impl Fn(usize) -> bool) -> bool {
-        self.verdict == Verdict::Yes && rules(self.input.count())
-    }
+    fn yes(&self, rules: impl Fn(usize) -> bool) -> bool { self.verdict == Verdict::Yes && rules(self.input.count()) }
     /// A no at a rule and an instant that are such.
-    fn no(&self, at: impl Fn(usize, usize) -> bool) -> bool {
-        matches!(self.verdict, Verdict::No(i, k) if at(i, k))
-    }
-    fn no_by(&self, place: u16) -> bool {
-        self.no(|i, _| self.input.rules[RULE_SIZE * i] == place)
-    }
+    fn no(&self, at: impl Fn(usize, usize) -> bool) -> bool { matches!(self.verdict, Verdict::No(i, k) if at(i, k)) }
+    fn no_by(&self, place: u16) -> bool { self.no(|i, _| self.input.rules[RULE_SIZE * i] == place) }
 }
 
 const REFUSED: [Case<Tried>; 13] = [
@@ -461,20 +421,15 @@ const JUDGED: [Case<Tried>; 20] = [
 ];
 
 fn main() {
-    let mut library = Library::started();
-    let mut random = Random::seeded();
-    let mut comparison = Comparison::of("compare the judge", 60_000, |_, seen| {
-        let tried = tried(random_input(&mut random));
-        seen.add_cases(&REFUSED, &tried);
-        seen.add_cases(&JUDGED, &tried);
+    let drawn = |random: &mut Random, _| tried(random_input(random));
+    let mut comparison = Comparison::of("compare the judge", 60_000, drawn, |tried, _, library, seen| {
+        seen.add_cases(&REFUSED, tried);
+        seen.add_cases(&JUDGED, tried);
         if tried.judged() {
             seen.add(format!("width {}", tried.input.width));
         }
-        let what = difference(&mut library, &tried)?;
-        let Input { rules, width, instants, cells } = tried.input;
-        Some(format!("{what}\n  rules {rules:?}\n  width {width}, instants {instants}, cells {}", hex(&cells)))
+        difference(tried, library)
     });
-
     comparison.tell(100, names(&REFUSED));
     comparison.tell(100, names(&JUDGED));
     comparison.require(1, (0..=MOST_COLUMNS).map(|width| format!("width {width}")));

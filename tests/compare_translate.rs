@@ -20,9 +20,7 @@ fn rule(place: u16, body: &[u16], head: &[u16]) -> [u16; RULE_SIZE] {
     words
 }
 
-fn label(formula: &Formula, r: usize) -> u16 {
-    SYMBOL_COLUMN + formula.atoms as u16 + r as u16
-}
+fn label(formula: &Formula, r: usize) -> u16 { SYMBOL_COLUMN + formula.atoms as u16 + r as u16 }
 
 /// The label that a path goes on with.
 fn continuation(tree: &Tree, path: usize) -> u16 {
@@ -106,6 +104,7 @@ fn star_faults(formula: &Formula, star: usize) -> Vec<Refusal> {
 
 /// An input, what must come back, and what must be written; for records that are a formula also what is wrong with each
 /// star that something is wrong with, and how many words its rules have.
+#[derive(Debug)]
 struct Tried {
     input: Input,
     refusal: Refusal,
@@ -133,8 +132,7 @@ fn tried(input: Input) -> Tried {
 
 /// Room that is exact or longer for a formula that is a tree.
 fn input_of(random: &mut Random, formula: Formula) -> Input {
-    let longer = if random.percent(50) { 0 } else { random.between(1, 100) };
-    Input { room: translation(&formula).len() + longer, formula }
+    Input { room: translation(&formula).len() + spare(random), formula }
 }
 
 /// One kind of harm, which may or may not make the input wrong: what must come of it is for `tried` to say.
@@ -178,7 +176,7 @@ fn random_input(random: &mut Random) -> Input {
 // ---- the call
 
 /// Calls the library on an input and says what is wrong with the outcome, if anything is.
-fn difference(library: &mut Library, random: &mut Random, tried: &Tried) -> Option<String> {
+fn difference(tried: &Tried, random: &mut Random, library: &mut Library) -> Option<String> {
     let Tried { input, refusal, written, .. } = tried;
     let words = as_bytes(written);
     let room = WORD_SIZE * input.room;
@@ -190,9 +188,7 @@ fn difference(library: &mut Library, random: &mut Random, tried: &Tried) -> Opti
 // ---- the run
 
 impl Tried {
-    fn accepted(&self) -> bool {
-        self.refusal == Accepted
-    }
+    fn accepted(&self) -> bool { self.refusal == Accepted }
     /// Whether the formula is accepted and has a star that is such.
     fn accepted_with(&self, wanted: impl Fn(&Tree, usize) -> bool) -> bool {
         let stars = if self.accepted() { self.input.formula.of_kind(STAR) } else { vec![] };
@@ -202,13 +198,9 @@ impl Tried {
         }
     }
     /// Whether this is all that is wrong with the first star at fault.
-    fn first(&self, faults: &[Refusal]) -> bool {
-        self.faults.first().is_some_and(|first| first == faults)
-    }
+    fn first(&self, faults: &[Refusal]) -> bool { self.faults.first().is_some_and(|first| first == faults) }
     /// Whether this is wrong with a later one.
-    fn later(&self, fault: Refusal) -> bool {
-        self.faults.iter().skip(1).any(|faults| faults.contains(&fault))
-    }
+    fn later(&self, fault: Refusal) -> bool { self.faults.iter().skip(1).any(|faults| faults.contains(&fault)) }
 }
 
 const CASES: [Case<Tried>; 9] = [
@@ -227,31 +219,26 @@ const CASES: [Case<Tried>; 9] = [
     ("no room by one word", |t| t.refusal == NoRoom && t.input.room == t.needed - 1),
 ];
 
+/// First every size once, whole and undamaged; then whatever comes. There is no formula of two records.
+fn drawn(random: &mut Random, i: usize) -> Tried {
+    if i == 2 || !(1..=MOST_RECORDS).contains(&i) {
+        return tried(random_input(random));
+    }
+    let formula = random_formula(random, i, true, 0);
+    tried(input_of(random, formula))
+}
+
 fn main() {
-    let mut library = Library::started();
-    let mut random = Random::seeded();
-    let mut comparison = Comparison::of("compare the translator", 60_000, |i, seen| {
-        // First every size once, whole and undamaged; then whatever comes. There is no formula of two records.
-        let input = match i {
-            1 | 3..=MOST_RECORDS => {
-                let formula = random_formula(&mut random, i, true, 0);
-                input_of(&mut random, formula)
-            }
-            _ => random_input(&mut random),
-        };
-        let tried = tried(input);
+    let mut comparison = Comparison::of("compare the translator", 60_000, drawn, |tried, random, library, seen| {
         seen.add(tried.refusal.name());
-        seen.add_cases(&CASES, &tried);
+        seen.add_cases(&CASES, tried);
         if tried.accepted() {
             seen.add(format!("{} records", tried.input.formula.count()));
             seen.add(format!("{} atoms", tried.input.formula.atoms));
             count_kinds(seen, &Tree::new(&tried.input.formula));
         }
-        let what = difference(&mut library, &mut random, &tried)?;
-        let Input { formula, room } = tried.input;
-        Some(format!("{what}\n  records {}\n  atoms {}, room for {room} words", hex(&formula.records), formula.atoms))
+        difference(tried, random, library)
     });
-
     comparison.tell(100, outcomes(&[NoRoom, StarStands, StarTurns]));
     comparison.tell(100, names(&CASES));
     comparison.tell(100, kind_names());

@@ -12,8 +12,10 @@
 mod shared;
 
 use shared::*;
+use std::array::from_fn;
 
 /// What is handed to the library; `room` is the table's length.
+#[derive(Debug)]
 struct Input {
     formula: Formula,
     instants: u64,
@@ -31,13 +33,19 @@ enum Trace {
     Total,
 }
 
-/// The instants at which a formula is satisfied; the pairs of instants that a path relates.
-type Instants = [bool; MOST_INSTANTS];
+/// Some of the instants, a bit for each; for each instant, those that a path leads to from it.
+type Instants = u32;
 type Relation = [Instants; MOST_INSTANTS];
 
-const NOWHERE: Relation = [[false; MOST_INSTANTS]; MOST_INSTANTS];
+fn has(some: Instants, k: usize) -> bool { some >> k & 1 == 1 }
 
-/// What each record says of one trace. A formula's relation and a path's instants are empty and are never looked at.
+/// Those of so many instants that are such.
+fn those(instants: usize, such: impl Fn(usize) -> bool) -> Instants {
+    (0..instants).filter(|&k| such(k)).fold(0, |found, k| found | 1 << k)
+}
+
+/// What each record says of one trace: where a formula is satisfied, and where a path leads.
+#[derive(Default)]
 struct Satisfied {
     holds: Vec<Instants>,
     leads: Vec<Relation>,
@@ -45,129 +53,66 @@ struct Satisfied {
 
 /// Whether an atom is in the first set of a trace's pair at an instant: that is H for the given trace and T for the
 /// total one. A cell of 2 is in both sets, a cell of 1 in T alone.
-fn has(trace: Trace, cell: u8) -> bool {
-    match trace {
-        Trace::Given => cell == 2,
-        Trace::Total => cell == 1 || cell == 2,
+fn is_in(trace: Trace, cell: u8) -> bool { cell == 2 || (trace == Trace::Total && cell == 1) }
+
+/// Where a path leads from any of some instants.
+fn led_to(path: &Relation, from: Instants) -> Instants {
+    (0..MOST_INSTANTS).filter(|&k| has(from, k)).fold(0, |ends, k| ends | path[k])
+}
+
+/// Any number of passes from an instant (definition 1, line 9): what is found, the start too, until nothing is new.
+fn repeated(pass: &Relation, k: usize) -> Instants {
+    let mut found = 1 << k;
+    while found | led_to(pass, found) != found {
+        found |= led_to(pass, found);
+    }
+    found
+}
+
+/// Where record r, a formula, is satisfied in a trace. `total` has all records before it, and `here` those of the trace.
+fn satisfied_at(input: &Input, r: usize, trace: Trace, here: &Satisfied, total: &Satisfied) -> Instants {
+    let (atoms, instants) = (input.formula.atoms as usize, input.instants as usize);
+    let (a, b) = (input.formula.a(r), input.formula.b(r));
+    // All of the path's ends satisfy the formula, seen in one trace.
+    let all_ends = |by: &Satisfied, k: usize| by.leads[a][k] & !by.holds[b] == 0;
+    match input.formula.kind(r) {
+        TRUE => those(instants, |_| true),
+        ATOM => those(instants, |k| is_in(trace, input.cells[k * atoms + a])),
+        // Some end of the path satisfies the formula, both in this trace (line 3).
+        DIAMOND => those(instants, |k| here.leads[a][k] & here.holds[b] != 0),
+        // Every end does, in this trace and also in the total one (line 4). For the total trace these are the same.
+        BOX => those(instants, |k| all_ends(here, k) && all_ends(total, k)),
+        _ => 0,
     }
 }
 
-/// One path and then another: some instant lies between (definition 1, line 8).
-fn composed(first: &Relation, second: &Relation, instants: usize) -> Relation {
-    let mut pairs = NOWHERE;
-    for k in 0..instants {
-        for between in 0..instants {
-            if first[k][between] {
-                for j in 0..instants {
-                    pairs[k][j] |= second[between][j];
-                }
-            }
-        }
+/// Where record r, a path, leads from instant k in a trace.
+fn leads_from(input: &Input, r: usize, k: usize, here: &Satisfied) -> Instants {
+    let instants = input.instants as usize;
+    let (a, b) = (input.formula.a(r), input.formula.b(r));
+    match input.formula.kind(r) {
+        // To the next instant, where there is one (line 5), and the other way round (line 10).
+        STEP => those(instants, |j| j == k + 1),
+        BACK => those(instants, |j| j + 1 == k),
+        // A test stays where it is, if its formula is satisfied in this trace (line 6).
+        TEST => those(instants, |j| j == k && has(here.holds[a], k)),
+        // The ends of either arm (line 7); those of the second part from the first one's (line 8).
+        CHOICE => here.leads[a][k] | here.leads[b][k],
+        SEQUENCE => led_to(&here.leads[b], here.leads[a][k]),
+        STAR => repeated(&here.leads[a], k),
+        _ => 0,
     }
-    pairs
-}
-
-/// Any number of passes (line 9): the instants that a search through the pass's pairs finds, the start among them.
-fn repeated(pass: &Relation, instants: usize) -> Relation {
-    let mut pairs = NOWHERE;
-    for k in 0..instants {
-        let mut waiting = vec![k];
-        pairs[k][k] = true;
-        while let Some(i) = waiting.pop() {
-            for j in 0..instants {
-                if pass[i][j] && !pairs[k][j] {
-                    pairs[k][j] = true;
-                    waiting.push(j);
-                }
-            }
-        }
-    }
-    pairs
-}
-
-/// The pairs the other way round (line 10), which is how a back step is read.
-fn converse(path: &Relation, instants: usize) -> Relation {
-    let mut pairs = NOWHERE;
-    for k in 0..instants {
-        for j in 0..instants {
-            pairs[k][j] = path[j][k];
-        }
-    }
-    pairs
-}
-
-/// A step leads to the next instant, where there is one (line 5).
-fn stepped(instants: usize) -> Relation {
-    let mut pairs = NOWHERE;
-    for k in 1..instants {
-        pairs[k - 1][k] = true;
-    }
-    pairs
-}
-
-/// All of a path's ends satisfy the formula, seen in one trace.
-fn all_ends(by: &Satisfied, path: usize, formula: usize, k: usize, instants: usize) -> bool {
-    (0..instants).all(|i| !by.leads[path][k][i] || by.holds[formula][i])
 }
 
 /// What every record says, of the given trace and of the total one. A child stands before its parent, so one pass is
-/// enough; the total trace comes first, because a box in the given one needs it (line 4).
+/// enough; the total trace comes first, because a box in the given one needs it.
 fn satisfied(input: &Input) -> (Satisfied, Satisfied) {
-    let instants = input.instants as usize;
-    let atoms = input.formula.atoms as usize;
-    let mut total = Satisfied { holds: vec![], leads: vec![] };
-    let mut given = Satisfied { holds: vec![], leads: vec![] };
-    for r in 0..input.formula.count() {
-        for trace in [Trace::Total, Trace::Given] {
+    let (mut given, mut total) = (Satisfied::default(), Satisfied::default());
+    for trace in [Trace::Total, Trace::Given] {
+        for r in 0..input.formula.count() {
             let here = if trace == Trace::Given { &given } else { &total };
-            let (a, b) = (input.formula.a(r), input.formula.b(r));
-            let mut holds = [false; MOST_INSTANTS];
-            let mut leads = NOWHERE;
-            match input.formula.kind(r) {
-                FALSE => {}
-                TRUE => holds[..instants].fill(true),
-                ATOM => {
-                    for k in 0..instants {
-                        holds[k] = has(trace, input.cells[k * atoms + a]);
-                    }
-                }
-                // Some end of the path satisfies the formula, both in this trace (line 3).
-                DIAMOND => {
-                    for k in 0..instants {
-                        holds[k] = (0..instants).any(|i| here.leads[a][k][i] && here.holds[b][i]);
-                    }
-                }
-                // Every end does, in this trace and also in the total one (line 4). For the total trace these are the
-                // same.
-                BOX => {
-                    for k in 0..instants {
-                        holds[k] = all_ends(here, a, b, k, instants);
-                        if trace == Trace::Given {
-                            // `total` has record r already, its children too.
-                            holds[k] = holds[k] && all_ends(&total, a, b, k, instants);
-                        }
-                    }
-                }
-                STEP => leads = stepped(instants),
-                BACK => leads = converse(&stepped(instants), instants),
-                // A test stays where it is, if its formula is satisfied in this trace (line 6).
-                TEST => {
-                    for k in 0..instants {
-                        leads[k][k] = here.holds[a][k];
-                    }
-                }
-                // The pairs of either arm (line 7).
-                CHOICE => {
-                    for k in 0..instants {
-                        for j in 0..instants {
-                            leads[k][j] = here.leads[a][k][j] || here.leads[b][k][j];
-                        }
-                    }
-                }
-                SEQUENCE => leads = composed(&here.leads[a], &here.leads[b], instants),
-                STAR => leads = repeated(&here.leads[a], instants),
-                _ => unreachable!("an accepted record has a core kind"),
-            }
+            let holds = satisfied_at(input, r, trace, here, &total);
+            let leads = from_fn(|k| if k < input.instants as usize { leads_from(input, r, k, here) } else { 0 });
             let by = if trace == Trace::Given { &mut given } else { &mut total };
             by.holds.push(holds);
             by.leads.push(leads);
@@ -199,26 +144,28 @@ fn refusal(input: &Input) -> Refusal {
         .or(NoRoom, || *room < formula.count() * *instants as usize)
 }
 
-/// What must come back, and what must then be in the table's first bytes.
-struct Expected {
+/// An input, what must come back, and what must then be in the table's first bytes.
+#[derive(Debug)]
+struct Tried {
+    input: Input,
     refusal: Refusal,
     value: u8,
     written: Vec<u8>,
 }
 
-fn expected(input: &Input) -> Expected {
-    let refusal = refusal(input);
+fn tried(input: Input) -> Tried {
+    let refusal = refusal(&input);
     if refusal != Accepted {
-        return Expected { refusal, value: 0, written: vec![] };
+        return Tried { input, refusal, value: 0, written: vec![] };
     }
-    let (given, total) = satisfied(input);
+    let (given, total) = satisfied(&input);
     let value = |r: usize, k: usize| match sort(&input.formula, r) {
-        Sort::Formula => three_valued(given.holds[r][k], total.holds[r][k]),
+        Sort::Formula => three_valued(has(given.holds[r], k), has(total.holds[r], k)),
         Sort::Path => 0,
     };
     let n = input.formula.count();
     let written = (0..n).flat_map(|r| (0..input.instants as usize).map(move |k| (r, k)));
-    Expected { refusal, value: value(n - 1, 0), written: written.map(|(r, k)| value(r, k)).collect() }
+    Tried { refusal, value: value(n - 1, 0), written: written.map(|(r, k)| value(r, k)).collect(), input }
 }
 
 // ---- random inputs
@@ -229,8 +176,7 @@ fn accepted_input(random: &mut Random, size: usize) -> Input {
     let formula = random_formula(random, size, tame, 0);
     let instants = random_instants(random);
     let cells = random_cells(random, formula.atoms as usize, instants);
-    let longer = if random.percent(50) { 0 } else { random.between(1, 100) };
-    Input { room: size * instants + longer, formula, instants: instants as u64, cells }
+    Input { room: size * instants + spare(random), formula, instants: instants as u64, cells }
 }
 
 // ---- damage
@@ -242,7 +188,7 @@ fn fit_cells(input: &mut Input) {
     }
 }
 
-/// One kind of harm, which may or may not make the input wrong: what must come of it is for `expected` to say.
+/// One kind of harm, which may or may not make the input wrong: what must come of it is for `tried` to say.
 fn damage(random: &mut Random, input: &mut Input) {
     let n = input.formula.count();
     let needed = n * input.instants.min(MOST_INSTANTS as u64) as usize;
@@ -298,13 +244,14 @@ fn random_input(random: &mut Random) -> Input {
 // ---- the call
 
 /// Calls the library on an input and says what is wrong with the outcome, if anything is.
-fn difference(library: &mut Library, random: &mut Random, input: &Input, expected: &Expected) -> Option<String> {
+fn difference(tried: &Tried, random: &mut Random, library: &mut Library) -> Option<String> {
+    let input = &tried.input;
     let lent = [
         Lent::to_read("records", &input.formula.records),
         Lent::to_read("cells", &input.cells),
-        Lent::to_write("table", random, input.room, &expected.written),
+        Lent::to_write("table", random, input.room, &tried.written),
     ];
-    let answer = [expected.refusal as u64, expected.value.into()];
+    let answer = [tried.refusal as u64, tried.value.into()];
     library.difference(Service::Value, [input.formula.atoms, input.instants], &lent, &answer)
 }
 
@@ -319,14 +266,14 @@ const SIZES: [Case<Input>; 5] = [
     ("255 records", |input| input.formula.count() == MOST_RECORDS),
 ];
 
-fn count(seen: &mut Seen, input: &Input, expected: &Expected) {
-    seen.add(expected.refusal.name());
-    if expected.refusal != Accepted {
+fn count(seen: &mut Seen, Tried { input, refusal, value, written }: &Tried) {
+    seen.add(refusal.name());
+    if *refusal != Accepted {
         return;
     }
     let (formula, instants) = (&input.formula, input.instants as usize);
     seen.add_cases(&SIZES, input);
-    seen.add(format!("value {}", expected.value));
+    seen.add(format!("value {value}"));
     seen.add(format!("{} records in all", formula.count()));
     seen.add(format!("{instants} instants"));
     seen.add(format!("{} atoms", formula.atoms));
@@ -334,34 +281,23 @@ fn count(seen: &mut Seen, input: &Input, expected: &Expected) {
         seen.add(format!("kind {}", formula.kind(r)));
     }
     let formulas = (0..formula.count()).filter(|&r| sort(formula, r) == Sort::Formula);
-    let values: Vec<u8> = formulas.flat_map(|r| expected.written[r * instants..(r + 1) * instants].to_vec()).collect();
+    let values: Vec<u8> = formulas.flat_map(|r| written[r * instants..(r + 1) * instants].to_vec()).collect();
     for value in 0..3 {
         let times = values.iter().filter(|&&found| found == value).count();
         seen.add_times(format!("value {value} in a table"), times);
     }
 }
 
-fn main() {
-    let mut library = Library::started();
-    let mut random = Random::seeded();
-    let mut comparison = Comparison::of("compare the evaluator", 100_000, |i, seen| {
-        // First every size once, whole and undamaged; then whatever comes. There is no formula of two records.
-        let input = match i {
-            1 | 3..=MOST_RECORDS => accepted_input(&mut random, i),
-            _ => random_input(&mut random),
-        };
-        let expected = expected(&input);
-        count(seen, &input, &expected);
-        let what = difference(&mut library, &mut random, &input, &expected)?;
-        let Input { formula, instants, cells, room } = input;
-        let (atoms, records, cells, written) =
-            (formula.atoms, hex(&formula.records), hex(&cells), hex(&expected.written));
-        Some(format!(
-            "{what}\n  records {records}\n  atoms {atoms}, instants {instants}, cells {cells}\n  \
-             table of {room} bytes, expected to start with {written}"
-        ))
-    });
+/// First every size once, whole and undamaged; then whatever comes. There is no formula of two records.
+fn drawn(random: &mut Random, i: usize) -> Tried {
+    tried(if i != 2 && (1..=MOST_RECORDS).contains(&i) { accepted_input(random, i) } else { random_input(random) })
+}
 
+fn main() {
+    let mut comparison = Comparison::of("compare the evaluator", 100_000, drawn, |tried, random, library, seen| {
+        count(seen, tried);
+        difference(tried, random, library)
+    });
     comparison.tell(100, outcomes(&[WrongCell, NoRoom]));
     comparison.tell(100, (0..3).map(|value| format!("value {value}")).collect());
     comparison.tell(100, names(&SIZES));

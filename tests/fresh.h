@@ -6,10 +6,7 @@
 #include <stddef.h>
 #include <stdint.h>
 
-static inline uint8_t fresh_byte(size_t at)
-{
-    return 0xc0 | at % 61;
-}
+static inline uint8_t fresh_byte(size_t at) { return 0xc0 | at % 61; }
 
 static inline void make_fresh(void *room, size_t size)
 {

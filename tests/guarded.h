@@ -20,10 +20,7 @@ static inline void guarded_must(int fine)
     }
 }
 
-static inline size_t guarded_page(void)
-{
-    return (size_t)sysconf(_SC_PAGESIZE);
-}
+static inline size_t guarded_page(void) { return (size_t)sysconf(_SC_PAGESIZE); }
 
 /* Pages of `size` bytes, a multiple of a page's, with an untouchable page before and after them. */
 static inline uint8_t *guarded_pages(size_t size)

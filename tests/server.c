@@ -60,31 +60,16 @@ static struct slice read_slice(int i, uint64_t size)
     return slice;
 }
 
-static int changed_in_front(struct slice slice)
-{
-    return memcmp(slice.at - FRONT, fresh_front, FRONT) != 0;
-}
+static int changed_in_front(struct slice slice) { return memcmp(slice.at - FRONT, fresh_front, FRONT) != 0; }
 
 /* ---- calls */
-static uint16_t *words(struct slice slice)
-{
-    return (uint16_t *)(void *)slice.at;
-}
+static uint16_t *words(struct slice slice) { return (uint16_t *)(void *)slice.at; }
 
-static size_t word_count(struct slice slice)
-{
-    return slice.size / sizeof(uint16_t);
-}
+static size_t word_count(struct slice slice) { return slice.size / sizeof(uint16_t); }
 
-static struct answer counted(pasturequill_counted got)
-{
-    return (struct answer){.results = {got.refusal, got.count}};
-}
+static struct answer counted(pasturequill_counted got) { return (struct answer){.results = {got.refusal, got.count}}; }
 
-static struct answer valued(pasturequill_valued got)
-{
-    return (struct answer){.results = {got.refusal, got.value}};
-}
+static struct answer valued(pasturequill_valued got) { return (struct answer){.results = {got.refusal, got.value}}; }
 
 static struct answer judged(pasturequill_judged got)
 {

@@ -23,10 +23,7 @@ pub fn damage_cells(random: &mut Random, cells: &mut Vec<u8>, width: u64, harm: 
         1 => cells.push(random.pick(&[0, 2, 3])),
         2 => cells.extend(vec![1; width.min(300) as usize]),
         _ if cells.is_empty() => {}
-        _ => {
-            let at = random.below(cells.len());
-            cells[at] = random.pick(&[3, 4, 128, 130, 254, 255]);
-        }
+        _ => change(random.below(cells.len()), cells, |_| random.pick(&[3, 4, 128, 130, 254, 255])),
     }
 }
 

@@ -1,15 +1,15 @@
 //! A comparison: how many inputs gave what was expected, and how often each case came up among them, so that a run
 //! which tries too little is seen, and fails.
 
+use super::*;
 use std::collections::HashMap;
+use std::fmt::Debug;
 use std::process::exit;
 
 /// A case: its name, and what makes an input one of it, seen with all that is expected of it.
 pub type Case<T> = (&'static str, fn(&T) -> bool);
 
-pub fn names<T>(cases: &[Case<T>]) -> Vec<String> {
-    cases.iter().map(|(name, _)| name.to_string()).collect()
-}
+pub fn names<T>(cases: &[Case<T>]) -> Vec<String> { cases.iter().map(|(name, _)| name.to_string()).collect() }
 
 /// How often each case came up.
 #[derive(Default)]
@@ -19,16 +19,12 @@ impl Seen {
     pub fn add_times(&mut self, name: impl Into<String>, times: usize) {
         *self.0.entry(name.into()).or_default() += times;
     }
-    pub fn add(&mut self, name: impl Into<String>) {
-        self.add_times(name, 1);
-    }
+    pub fn add(&mut self, name: impl Into<String>) { self.add_times(name, 1); }
     /// Adds those of the cases that an input is.
     pub fn add_cases<T>(&mut self, cases: &[Case<T>], tried: &T) {
         cases.iter().filter(|(_, is_one)| is_one(tried)).for_each(|(name, _)| self.add(*name));
     }
-    pub fn times(&self, name: &str) -> usize {
-        self.0.get(name).copied().unwrap_or(0)
-    }
+    pub fn times(&self, name: &str) -> usize { self.0.get(name).copied().unwrap_or(0) }
 }
 
 pub struct Comparison {
@@ -40,21 +36,24 @@ pub struct Comparison {
 }
 
 impl Comparison {
-    /// Compares the inputs, and prints the first that differ: `difference` counts what the input of a number is, and
-    /// says what is wrong with its outcome, if anything is, and what the input was.
-    pub fn of(
+    /// Compares so many inputs, and prints the first that differ: `drawn` is the input of a number with all that is
+    /// expected of it; `difference` counts what it is, and says what is wrong with its outcome, if anything is.
+    pub fn of<T: Debug>(
         name: &'static str,
         inputs: usize,
-        mut difference: impl FnMut(usize, &mut Seen) -> Option<String>,
+        drawn: impl Fn(&mut Random, usize) -> T,
+        difference: impl Fn(&T, &mut Random, &mut Library, &mut Seen) -> Option<String>,
     ) -> Comparison {
+        let (mut random, mut library) = (Random::seeded(), Library::started());
         let mut comparison = Comparison { name, seen: Seen::default(), passed: 0, failed: 0, missing: vec![] };
         for i in 0..inputs {
-            match difference(i, &mut comparison.seen) {
+            let tried = drawn(&mut random, i);
+            match difference(&tried, &mut random, &mut library, &mut comparison.seen) {
                 None => comparison.passed += 1,
                 Some(what) => {
                     comparison.failed += 1;
                     if comparison.failed <= 5 {
-                        println!("{name}: input {i}: {what}");
+                        println!("{name}: input {i}: {what}\n  {tried:?}");
                     }
                 }
             }

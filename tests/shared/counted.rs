@@ -3,6 +3,7 @@
 use super::*;
 
 /// What is handed to the library; `room` counts bytes of records or words of rules.
+#[derive(Debug)]
 pub struct Input {
     pub formula: Formula,
     pub room: usize,

@@ -29,6 +29,7 @@ pub fn record(kind: u8, a: usize, b: usize) -> Record {
 }
 
 /// Records, of a formula or not, how many atoms there are, and whether they are for a service that takes shorthands.
+#[derive(Debug)]
 pub struct Formula {
     pub records: Vec<u8>,
     pub atoms: u64,
@@ -36,39 +37,21 @@ pub struct Formula {
 }
 
 impl Formula {
-    pub fn count(&self) -> usize {
-        self.records.len() / RECORD_SIZE
-    }
-    fn byte(&self, r: usize, at: usize) -> u8 {
-        self.records[RECORD_SIZE * r + at]
-    }
-    pub fn kind(&self, r: usize) -> u8 {
-        self.byte(r, KIND)
-    }
+    pub fn count(&self) -> usize { self.records.len() / RECORD_SIZE }
+    fn byte(&self, r: usize, at: usize) -> u8 { self.records[RECORD_SIZE * r + at] }
+    pub fn kind(&self, r: usize) -> u8 { self.byte(r, KIND) }
     fn fields(&self, r: usize) -> [usize; 2] {
         FIELDS.map(|at| u16::from_le_bytes([self.byte(r, at), self.byte(r, at + 1)]) as usize)
     }
-    pub fn a(&self, r: usize) -> usize {
-        self.fields(r)[0]
-    }
-    pub fn b(&self, r: usize) -> usize {
-        self.fields(r)[1]
-    }
+    pub fn a(&self, r: usize) -> usize { self.fields(r)[0] }
+    pub fn b(&self, r: usize) -> usize { self.fields(r)[1] }
     /// The bytes of record r.
-    pub fn bytes(&mut self, r: usize) -> &mut [u8] {
-        &mut self.records[RECORD_SIZE * r..RECORD_SIZE * (r + 1)]
-    }
-    pub fn set_kind(&mut self, r: usize, kind: u8) {
-        self.bytes(r)[KIND] = kind;
-    }
+    pub fn bytes(&mut self, r: usize) -> &mut [u8] { &mut self.records[RECORD_SIZE * r..RECORD_SIZE * (r + 1)] }
+    pub fn set_kind(&mut self, r: usize, kind: u8) { self.bytes(r)[KIND] = kind; }
     /// The records of a kind.
-    pub fn of_kind(&self, kind: u8) -> Vec<usize> {
-        (0..self.count()).filter(|&r| self.kind(r) == kind).collect()
-    }
+    pub fn of_kind(&self, kind: u8) -> Vec<usize> { (0..self.count()).filter(|&r| self.kind(r) == kind).collect() }
     /// The line of record r in the table of kinds, if the service takes its kind.
-    pub fn line(&self, r: usize) -> Option<Line> {
-        line(self.kind(r), self.shorthands)
-    }
+    pub fn line(&self, r: usize) -> Option<Line> { line(self.kind(r), self.shorthands) }
     /// What record r has in its fields, and what these hold by the table.
     fn held(&self, r: usize) -> Option<[(Field, usize); 2]> {
         let (_, a, b) = self.line(r)?;
@@ -164,9 +147,7 @@ fn records_refusal(formula: &Formula) -> Refusal {
 }
 
 /// Whether the records are a formula's.
-pub fn is_formula(formula: &Formula) -> bool {
-    !wrong_length(formula) && records_refusal(formula) == Accepted
-}
+pub fn is_formula(formula: &Formula) -> bool { !wrong_length(formula) && records_refusal(formula) == Accepted }
 
 /// What every service asks of a formula: the length; the atoms, and what else `wrong_size` says; the records.
 pub fn formula_refusal(formula: &Formula, wrong_size: bool) -> Refusal {

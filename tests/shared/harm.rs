@@ -18,13 +18,9 @@ fn set_field(formula: &mut Formula, r: usize, second: bool, v: usize) {
     formula.bytes(r)[at..at + 2].copy_from_slice(&(v as u16).to_le_bytes());
 }
 
-fn has_children(formula: &Formula, r: usize) -> bool {
-    matches!(formula.line(r), Some((_, Field::Child(_), _)))
-}
+fn has_children(formula: &Formula, r: usize) -> bool { matches!(formula.line(r), Some((_, Field::Child(_), _))) }
 
-fn is_path(formula: &Formula, r: usize) -> bool {
-    matches!(formula.line(r), Some((Sort::Path, ..)))
-}
+fn is_path(formula: &Formula, r: usize) -> bool { matches!(formula.line(r), Some((Sort::Path, ..))) }
 
 /// Names another earlier record where record r names a child, of the same sort or of the other.
 fn redirect(random: &mut Random, formula: &mut Formula, same: bool) {
@@ -54,30 +50,18 @@ fn name_again(random: &mut Random, formula: &mut Formula) {
 
 /// One kind of harm to the records, which may or may not make them wrong.
 pub fn damage_records(random: &mut Random, formula: &mut Formula) {
-    let n = formula.count();
-    let size = formula.records.len();
+    let (n, size, atoms) = (formula.count(), formula.records.len(), formula.atoms as usize);
     match random.below(16) {
         // bytes
-        0 if size > 0 => {
-            let at = random.below(size);
-            formula.records[at] ^= 1 << random.below(8);
-        }
-        1 if size > 0 => {
-            let at = random.below(size);
-            formula.records[at] = random.byte();
-        }
+        0 if size > 0 => change(random.below(size), &mut formula.records, |byte| byte ^ 1 << random.below(8)),
+        1 if size > 0 => change(random.below(size), &mut formula.records, |_| random.byte()),
         // the length
         2 => formula.records.truncate(size.saturating_sub(random.between(1, RECORD_SIZE - 1))),
         3 => formula.records.truncate(RECORD_SIZE * random.below(n + 1)),
         4 => (0..random.between(1, RECORD_SIZE - 1)).for_each(|_| formula.records.push(0)),
         5 => {
-            let more = random.pick(&[
-                record(TRUE, 0, 0),
-                record(STEP, 0, 0),
-                record(FALSE, 0, 0),
-                record(STAR, n.saturating_sub(1), 0),
-            ]);
-            formula.records.extend(more);
+            let more = random.pick(&[(TRUE, 0), (STEP, 0), (FALSE, 0), (STAR, n.saturating_sub(1))]);
+            formula.records.extend(record(more.0, more.1, 0));
         }
         6 => {
             let upto = random.pick(&[MOST_RECORDS, MOST_RECORDS + 1, MOST_RECORDS + 2, 300, 1000]);
@@ -93,26 +77,18 @@ pub fn damage_records(random: &mut Random, formula: &mut Formula) {
         }
         8 if n > 0 => {
             let r = random.below(n);
-            let at = random.pick(&[1, 1, 2, 3, 4, 5]);
-            formula.bytes(r)[at] = random.between(1, 255) as u8;
+            change(random.pick(&[1, 1, 2, 3, 4, 5]), formula.bytes(r), |_| random.between(1, 255) as u8);
         }
         9 => {
-            if let Some(r) = some_record(random, formula, |r| has_children(formula, r)) {
-                let second = random.percent(50);
-                let old = if second { formula.b(r) } else { formula.a(r) };
-                set_field(formula, r, second, random.pick(&[r, r + 1, n, 255, 256, 256 + old, 65535]));
-            }
+            let Some(r) = some_record(random, formula, |r| has_children(formula, r)) else { return };
+            let second = random.percent(50);
+            let old = if second { formula.b(r) } else { formula.a(r) };
+            set_field(formula, r, second, random.pick(&[r, r + 1, n, 255, 256, 256 + old, 65535]));
         }
         10 => {
-            if let Some(r) = some_record(random, formula, |r| formula.kind(r) == ATOM) {
-                let old = formula.a(r);
-                set_field(
-                    formula,
-                    r,
-                    false,
-                    random.pick(&[formula.atoms as usize, formula.atoms as usize + 1, 32, 255, 256 + old, 65535]),
-                );
-            }
+            let Some(r) = some_record(random, formula, |r| formula.kind(r) == ATOM) else { return };
+            let others = [atoms, atoms.wrapping_add(1), 32, 255, 256 + formula.a(r), 65535];
+            set_field(formula, r, false, random.pick(&others));
         }
         11 => redirect(random, formula, false),
         12 => redirect(random, formula, true),
@@ -120,9 +96,8 @@ pub fn damage_records(random: &mut Random, formula: &mut Formula) {
         13 | 14 => name_again(random, formula),
         // The records up to some path.
         15 => {
-            if let Some(r) = some_record(random, formula, |r| is_path(formula, r)) {
-                formula.records.truncate(RECORD_SIZE * (r + 1));
-            }
+            let Some(r) = some_record(random, formula, |r| is_path(formula, r)) else { return };
+            formula.records.truncate(RECORD_SIZE * (r + 1));
         }
         _ => {}
     }

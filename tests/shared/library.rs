@@ -37,9 +37,7 @@ pub struct Lent<'a> {
 
 impl<'a> Lent<'a> {
     /// A slice that is only read.
-    pub fn to_read(name: &'static str, bytes: &[u8]) -> Lent<'a> {
-        Lent { name, before: bytes.to_vec(), written: &[] }
-    }
+    pub fn to_read(name: &'static str, bytes: &[u8]) -> Lent<'a> { Lent { name, before: bytes.to_vec(), written: &[] } }
     /// Room of a given size, all bytes of it drawn.
     pub fn to_write(name: &'static str, random: &mut Random, size: usize, written: &'a [u8]) -> Lent<'a> {
         Lent { name, before: (0..size).map(|_| random.byte()).collect(), written }

@@ -1,25 +1,9 @@
 //! What the comparisons share.
 #![allow(dead_code, unused_imports)] // No comparison needs all of it.
 
-mod cells;
-mod comparison;
-pub mod counted;
-mod drawing;
-mod formulas;
-mod harm;
-mod inputs;
-mod library;
-mod numbers;
-mod rules;
-mod tree;
+macro_rules! parts {
+    ($($name:ident),*) => { $(mod $name; pub use $name::*;)* };
+}
 
-pub use cells::*;
-pub use comparison::*;
-pub use drawing::*;
-pub use formulas::*;
-pub use harm::*;
-pub use inputs::*;
-pub use library::*;
-pub use numbers::*;
-pub use rules::*;
-pub use tree::*;
+parts!(cells, comparison, drawing, formulas, harm, inputs, library, numbers, rules, tree);
+pub mod counted;

@@ -26,29 +26,14 @@ numbers!(u16: MARK_PREVIOUS = 16_384, MARK_NOT = 32_768);
 /// What is given back, numbered from 0.
 #[derive(Clone, Copy, PartialEq, Debug)]
 pub enum Refusal {
-    Accepted,
-    WrongLength,
-    UnknownKind,
-    NotZero,
-    LateChild,
-    NoSuchAtom,
-    WrongSort,
-    NotATree,
-    WrongSize,
-    WrongCell,
-    NoRoom,
-    StarStands,
-    StarTurns,
-    WrongRules,
-    TooLong,
+    Accepted, WrongLength, UnknownKind, NotZero, LateChild, NoSuchAtom, WrongSort, NotATree, WrongSize, WrongCell,
+    NoRoom, StarStands, StarTurns, WrongRules, TooLong,
 }
 
 pub use Refusal::*;
 
 impl Refusal {
-    pub fn name(self) -> String {
-        format!("{self:?}")
-    }
+    pub fn name(self) -> String { format!("{self:?}") }
     /// This refusal; where the input is accepted so far, the next one if it applies.
     pub fn or(self, next: Refusal, applies: impl FnOnce() -> bool) -> Refusal {
         if self == Accepted && applies() { next } else { self }

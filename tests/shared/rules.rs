@@ -20,9 +20,7 @@ pub fn literal(word: u16) -> Literal {
 }
 
 /// The literals of a rule.
-pub fn literals(rule: &[u16]) -> impl Iterator<Item = Literal> + '_ {
-    rule[1..].iter().map(|&word| literal(word))
-}
+pub fn literals(rule: &[u16]) -> impl Iterator<Item = Literal> + '_ { rule[1..].iter().map(|&word| literal(word)) }
 
 /// What a literal is worth at an instant; one of the previous instant is never asked at the first.
 fn worth(width: usize, cells: &[u8], literal: Literal, k: usize) -> u8 {
@@ -50,9 +48,7 @@ pub fn instants_of(place: u16, instants: usize) -> Range<usize> {
     }
 }
 
-fn imp(u: u8, v: u8) -> u8 {
-    if u <= v { 2 } else { v }
-}
+fn imp(u: u8, v: u8) -> u8 { if u <= v { 2 } else { v } }
 
 /// Whether a rule holds at one of its instants.
 pub fn holds_at(width: usize, cells: &[u8], rule: &[u16], k: usize) -> bool {
@@ -65,9 +61,7 @@ pub fn holds_at(width: usize, cells: &[u8], rule: &[u16], k: usize) -> bool {
 pub const WORD_SIZE: usize = 2;
 
 /// Words as they are in memory, and back.
-pub fn as_bytes(words: &[u16]) -> Vec<u8> {
-    words.iter().flat_map(|word| word.to_le_bytes()).collect()
-}
+pub fn as_bytes(words: &[u16]) -> Vec<u8> { words.iter().flat_map(|word| word.to_le_bytes()).collect() }
 
 pub fn as_words(bytes: &[u8]) -> Vec<u16> {
     bytes.chunks_exact(WORD_SIZE).map(|word| u16::from_le_bytes([word[0], word[1]])).collect()

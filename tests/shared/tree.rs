@@ -19,9 +19,7 @@ impl Tree<'_> {
         Tree { formula, parents }
     }
 
-    pub fn parent(&self, path: usize) -> usize {
-        self.parents[path].expect("a path has a parent")
-    }
+    pub fn parent(&self, path: usize) -> usize { self.parents[path].expect("a path has a parent") }
 
     /// The diamond or box that a path stands under.
     pub fn modality(&self, path: usize) -> u8 {
@@ -53,9 +51,7 @@ impl Tree<'_> {
 const KINDS: [&str; 11] =
     ["false", "true", "atom", "diamond", "box", "step", "back", "test", "choice", "sequence", "star"];
 
-fn under(kind: u8, modality: u8) -> String {
-    format!("{} under a {}", KINDS[kind as usize], KINDS[modality as usize])
-}
+fn under(kind: u8, modality: u8) -> String { format!("{} under a {}", KINDS[kind as usize], KINDS[modality as usize]) }
 
 pub fn kind_names() -> Vec<String> {
     let formulas = (FALSE..=BOX).map(|kind| KINDS[kind as usize].to_string());
