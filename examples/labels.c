@@ -14,8 +14,6 @@ enum { MOST_SHOWN = 5, LABELS = 3, MOST_COLUMNS = 9, PAPER_RULES = 12 };
 /* The symbols of the paper's rules, a column each. */
 enum { GAMMA = COLUMN, ALPHA, BETA, P, Q, SYMBOLS };
 
-typedef uint16_t rule[RULE_SIZE];
-
 /* Each symbol's values at each instant. */
 struct rows {
     uint8_t of[SYMBOLS][PASTUREQUILL_MOST_INSTANTS];
@@ -25,7 +23,7 @@ struct rows {
 static const struct example {
     const char *heading, *atoms;
     const char *gamma, *before[LABELS]; /* the formula gamma, and what each label's formula has before it */
-    rule paper[PAPER_RULES];
+    uint16_t paper[RULE_SIZE * PAPER_RULES];
     size_t ours;                   /* how many rules our translation has, by the specification */
     uint8_t columns[MOST_COLUMNS]; /* our columns, the atoms and then a label for each record: whose values they have */
     size_t most_searched;          /* all fillings are tried up to so many instants */
@@ -34,18 +32,12 @@ static const struct example {
     {"p until q: q holds at some instant, and p at each one before it", "pq",
      "<(p? ; step)*>q", {"", "<p? ; step>", "<step>"},
      {
-         {EVERY, GAMMA, YES, Q, ALPHA, NO},       /* (2): gamma is q or alpha */
-         {ARROW(EVERY, Q, GAMMA)},
-         {ARROW(EVERY, ALPHA, GAMMA)},
-         {ARROW(LAST, GAMMA, Q)},                 /* (3): at last, q */
-         {ARROW(LAST, Q, GAMMA)},
-         {ARROW(EVERY, ALPHA, P)},                /* (4): alpha is p and beta */
-         {ARROW(EVERY, ALPHA, BETA)},
-         {EVERY, P, BETA, ALPHA, NO, NO},
-         {ARROW(LATER, PREVIOUS + BETA, GAMMA)},  /* (5): beta is gamma next */
-         {ARROW(LATER, GAMMA, PREVIOUS + BETA)},
-         {ARROW(LAST, BETA, NO)},                 /* (6): at last, false */
-         {ARROW(FIRST, YES, GAMMA)},
+         GREATER(GAMMA, Q, ALPHA),             /* (2): gamma is q or alpha */
+         SAME(LAST, GAMMA, Q),                 /* (3): at last, q */
+         SMALLER(ALPHA, P, BETA),              /* (4): alpha is p and beta */
+         SAME(LATER, PREVIOUS + BETA, GAMMA),  /* (5): beta is gamma next */
+         ARROW(LAST, BETA, NO),                /* (6): at last, false */
+         ARROW(FIRST, YES, GAMMA),
      },
      18, {P, Q, P, ALPHA, BETA, ALPHA, GAMMA, Q, GAMMA}, 2,
      {
@@ -58,18 +50,13 @@ static const struct example {
     {"p at all even instants", "p",
      "[(step ; step)*]p", {"", "[step ; step]", "[step]"},
      {
-         {ARROW(EVERY, GAMMA, P)},                /* (7): gamma is p and alpha */
-         {ARROW(EVERY, GAMMA, ALPHA)},
-         {EVERY, P, ALPHA, GAMMA, NO, NO},
-         {ARROW(LAST, GAMMA, P)},                 /* (8): at last, p */
-         {ARROW(LAST, P, GAMMA)},
-         {ARROW(LATER, PREVIOUS + ALPHA, BETA)},  /* (9): alpha is beta next */
-         {ARROW(LATER, BETA, PREVIOUS + ALPHA)},
-         {ARROW(LAST, YES, ALPHA)},               /* (10): at last, true */
-         {ARROW(LATER, PREVIOUS + BETA, GAMMA)},  /* (11): beta is gamma next */
-         {ARROW(LATER, GAMMA, PREVIOUS + BETA)},
-         {ARROW(LAST, YES, BETA)},                /* (12): at last, true */
-         {ARROW(FIRST, YES, GAMMA)},
+         SMALLER(GAMMA, P, ALPHA),             /* (7): gamma is p and alpha */
+         SAME(LAST, GAMMA, P),                 /* (8): at last, p */
+         SAME(LATER, PREVIOUS + ALPHA, BETA),  /* (9): alpha is beta next */
+         ARROW(LAST, YES, ALPHA),              /* (10): at last, true */
+         SAME(LATER, PREVIOUS + BETA, GAMMA),  /* (11): beta is gamma next */
+         ARROW(LAST, YES, BETA),               /* (12): at last, true */
+         ARROW(FIRST, YES, GAMMA),
      },
      16, {P, ALPHA, BETA, ALPHA, GAMMA, P, GAMMA}, 3,
      {
@@ -139,7 +126,7 @@ static void show_trace(const struct example *e, const struct formula *f, const s
         printf("\n");
     }
     print_verdict("the paper's", PAPER_RULES,
-                  judged(e->paper[0], PAPER_RULES, &rows, paper_columns, LABELS + t.atoms, t.instants), gamma);
+                  judged(e->paper, PAPER_RULES, &rows, paper_columns, LABELS + t.atoms, t.instants), gamma);
     print_verdict("our", ours->count, judged(ours->words, ours->count, &rows, e->columns, t.atoms + f->n, t.instants),
                   gamma);
 }
@@ -160,7 +147,7 @@ static void try_fillings(const struct example *e, const struct trace *t, struct 
         for (size_t i = 0; i < LABELS; i++)
             memcpy(rows.of[GAMMA + i], filling + i * t->instants, t->instants);
         s->fillings++;
-        if (judged(e->paper[0], PAPER_RULES - 1, &rows, paper_columns, LABELS + t->atoms, t->instants).holds) {
+        if (judged(e->paper, PAPER_RULES - 1, &rows, paper_columns, LABELS + t->atoms, t->instants).holds) {
             s->kept++;
             s->right += memcmp(&rows, &values, sizeof rows) == 0;
         }

@@ -16,15 +16,6 @@ static void show_n(const char *text, uint8_t due)
 }
 
 /* ---- O: records */
-/* Puts next, <step>.., around a formula so often. */
-static void add_nexts(struct formula *f, size_t end, size_t often)
-{
-    while (often-- > 0) {
-        size_t on = step(f);
-        end = diamond(f, on, end);
-    }
-}
-
 /* Asks the services over records, with one atom at one instant. */
 static void show_records(const struct formula *f, uint8_t due)
 {
@@ -39,20 +30,15 @@ static void show_records(const struct formula *f, uint8_t due)
            word(checked == due && valued == due && translated == due));
 }
 
-static void show_longest(void)
+/* So many nexts around a formula. */
+static void show_nexts(const char *text, size_t often, uint8_t due)
 {
-    struct formula f = {.n = 0};
-    add_nexts(&f, atom(&f, 0), 127);
-    show_records(&f, PASTUREQUILL_ACCEPTED);
-}
-
-/* p and p under 126 nexts: nothing is wrong with the 256 records but their number. */
-static void show_too_long(void)
-{
-    struct formula f = {.n = 0};
-    size_t p = atom(&f, 0);
-    add_nexts(&f, both(&f, p, atom(&f, 0)), 126);
-    show_records(&f, PASTUREQUILL_WRONG_LENGTH);
+    struct formula f = formula_of("p", text);
+    for (size_t end = f.n - 1; often-- > 0;) {
+        size_t on = step(&f);
+        end = diamond(&f, on, end);
+    }
+    show_records(&f, due);
 }
 
 /* ---- O: cells */
@@ -78,8 +64,9 @@ int main(void)
     show_n("[step]p", 2);
     show_n("<step>p", 0);
     printf("\nO  taken, 0, or refused\n");
-    show_longest();
-    show_too_long();
+    show_nexts("p", 127, PASTUREQUILL_ACCEPTED);
+    /* Nothing is wrong with these 256 records but their number. */
+    show_nexts("p and p", 126, PASTUREQUILL_WRONG_LENGTH);
     show_cells("32 instants", 1, MOST_INSTANTS, zeros, PASTUREQUILL_ACCEPTED);
     show_cells("33 instants", 1, MOST_INSTANTS + 1, zeros, PASTUREQUILL_WRONG_SIZE);
     show_cells("a cell 3 in p, the formula being p", 2, 1, in_p, PASTUREQUILL_WRONG_CELL);

@@ -51,15 +51,12 @@ static inline size_t choice(struct formula *f, size_t p, size_t q) { return add(
 static inline size_t sequence(struct formula *f, size_t p, size_t q) { return add(f, PASTUREQUILL_SEQUENCE, p, q); }
 static inline size_t star(struct formula *f, size_t p) { return add(f, PASTUREQUILL_STAR, p, 0); }
 
-/* The path that goes on where a formula holds: G? ; step. */
-static inline size_t go_if(struct formula *f, size_t g)
+/* The path that goes on where an atom holds: p? ; step. */
+static inline size_t go(struct formula *f, size_t i)
 {
-    size_t tested = test(f, g);
+    size_t tested = test(f, atom(f, i));
     return sequence(f, tested, step(f));
 }
-
-/* The path that goes on where an atom holds. */
-static inline size_t go(struct formula *f, size_t i) { return go_if(f, atom(f, i)); }
 
 /* Either neighbour: step + back. */
 static inline size_t either_way(struct formula *f)
@@ -74,11 +71,5 @@ static inline size_t not_so(struct formula *f, size_t g)
     size_t tested = test(f, g);
     return box(f, tested, no(f));
 }
-
-/* And: <G?>H. */
-static inline size_t both(struct formula *f, size_t g, size_t h) { return diamond(f, test(f, g), h); }
-
-/* Implies: [G?]H. */
-static inline size_t implies(struct formula *f, size_t g, size_t h) { return box(f, test(f, g), h); }
 
 #endif

@@ -5,23 +5,24 @@
 #include "tables.h"
 #include "written.h"
 
-/* One record; Z has something in its zero byte. */
+/* One record, by its kind's number or by the name of it; Z has something in its zero byte. */
 #define R(kind, a, b) Z(kind, 0, a, b)
+#define K(name, a, b) R(PASTUREQUILL_##name, a, b)
 #define Z(kind, zero, a, b)                                                                          \
     {[KIND] = kind, [ZERO] = zero, [FIELD_A] = (a) & UINT8_MAX, [FIELD_A + HIGH] = (a) >> 8,         \
      [FIELD_B] = (b) & UINT8_MAX, [FIELD_B + HIGH] = (b) >> 8}
 
-#define FALSE_ R(PASTUREQUILL_FALSE, 0, 0)
-#define TRUE_ R(PASTUREQUILL_TRUE, 0, 0)
-#define ATOM(i) R(PASTUREQUILL_ATOM, i, 0)
-#define DIAMOND(p, f) R(PASTUREQUILL_DIAMOND, p, f)
-#define BOX(p, f) R(PASTUREQUILL_BOX, p, f)
-#define STEP R(PASTUREQUILL_STEP, 0, 0)
-#define BACK R(PASTUREQUILL_BACK, 0, 0)
-#define TEST(f) R(PASTUREQUILL_TEST, f, 0)
-#define CHOICE(p, q) R(PASTUREQUILL_CHOICE, p, q)
-#define SEQUENCE(p, q) R(PASTUREQUILL_SEQUENCE, p, q)
-#define STAR(p) R(PASTUREQUILL_STAR, p, 0)
+#define FALSE_ K(FALSE, 0, 0)
+#define TRUE_ K(TRUE, 0, 0)
+#define ATOM(i) K(ATOM, i, 0)
+#define DIAMOND(p, f) K(DIAMOND, p, f)
+#define BOX(p, f) K(BOX, p, f)
+#define STEP K(STEP, 0, 0)
+#define BACK K(BACK, 0, 0)
+#define TEST(f) K(TEST, f, 0)
+#define CHOICE(p, q) K(CHOICE, p, q)
+#define SEQUENCE(p, q) K(SEQUENCE, p, q)
+#define STAR(p) K(STAR, p, 0)
 
 /* The bytes of some records. */
 #define RECORDS(...) \
@@ -30,10 +31,7 @@
 static inline struct bytes bytes_of(const struct formula *f) { return (struct bytes){f->records, size_of(f)}; }
 
 /* A formula in a table: as it is written over p, q and r, or record by record. */
-struct source {
-    const char *written;
-    struct bytes listed;
-};
+struct source { const char *written; struct bytes listed; };
 
 #define F(text) {text, NONE}
 #define LISTED(...) {NULL, RECORDS(__VA_ARGS__)}

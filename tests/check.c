@@ -2,7 +2,6 @@
  * ending and starting at a page that may not be touched, in memory that may only be read. */
 #define TEST_NAME "check"
 
-#include "counts.h"
 #include "faults.h"
 #include "guarded.h"
 

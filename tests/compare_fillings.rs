@@ -96,7 +96,7 @@ fn unmeant(library: &mut Library, formula: &Formula, instants: usize, cells: &[u
     let n = formula.count();
     let room = vec![9; n * instants];
     let valued = library.call(Service::Value, [formula.atoms, instants as u64], &[&formula.records, cells, &room])?;
-    let [refusal, value, ..] = valued.results;
+    let (refusal, value) = (valued.results[0], valued.results[1]);
     let table = &valued.slices[2];
     if refusal != 0 {
         return Err(format!("valuing refuses it with {refusal}"));

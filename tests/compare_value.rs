@@ -28,10 +28,7 @@ struct Input {
 /// Of an HT-trace ⟨H,T⟩ two things are asked: what it satisfies itself, and what the total trace ⟨T,T⟩ does. A box asks
 /// both.
 #[derive(Clone, Copy, PartialEq)]
-enum Trace {
-    Given,
-    Total,
-}
+enum Trace { Given, Total }
 
 /// Some of the instants, a bit for each; for each instant, those that a path leads to from it.
 type Instants = u32;

@@ -7,10 +7,7 @@
 #include "room.h"
 
 /* What is written: elements, if they are known, and how many. */
-struct output {
-    const ELEMENT *at;
-    size_t size;
-};
+struct output { const ELEMENT *at; size_t size; };
 
 /* Compares an outcome: on a refusal all room stays; else what is due is at its start, and the rest stays. */
 static void compare(const char *reason, pasturequill_counted got, const ELEMENT *out, size_t room, int refusal,
@@ -34,8 +31,7 @@ static void expect(const char *reason, struct bytes records, uint64_t atoms, siz
     }
 }
 
-/* An accepted formula in room that is exact, longer, shorter by an element or by what one record or rule has, and
- * none. */
+/* An accepted formula in room that is exact, longer, shorter by an element or by a record or rule, and none. */
 static void expect_output(const char *reason, struct bytes records, uint64_t atoms, struct output due)
 {
     const size_t enough[] = {due.size, due.size + 1, due.size + 40}, less[] = {due.size - 1, due.size - EACH, 0};

@@ -8,17 +8,7 @@
 
 #include "counted.h"
 
-#define NOT(f) R(PASTUREQUILL_NOT, f, 0)
-#define AND(f, g) R(PASTUREQUILL_AND, f, g)
-#define OR(f, g) R(PASTUREQUILL_OR, f, g)
-#define IMPLIES(f, g) R(PASTUREQUILL_IMPLIES, f, g)
-#define FINAL R(PASTUREQUILL_FINAL, 0, 0)
-#define INITIAL R(PASTUREQUILL_INITIAL, 0, 0)
-#define NEXT(f) R(PASTUREQUILL_NEXT, f, 0)
-#define PREVIOUS(f) R(PASTUREQUILL_PREVIOUS, f, 0)
-#define ONCE(f) R(PASTUREQUILL_ONCE, f, 0)
-#define UNTIL(f, g) R(PASTUREQUILL_UNTIL, f, g)
-#define SINCE(f, g) R(PASTUREQUILL_SINCE, f, g)
+#define FINAL K(FINAL, 0, 0)
 
 /* What comes out is a formula, and expands to itself. */
 static void expect_settled(const char *reason, struct bytes records, uint64_t atoms)
@@ -113,15 +103,17 @@ static const struct expanded {
             {2, 0, 1, 0, 0, 0}, {3, 0, 4, 0, 5, 0})},
 
     /* arguments in the other order: field a's records come first, whatever their numbers */
-    {"q's record before p's, and", RECORDS(ATOM(1), ATOM(0), AND(1, 0)), F("<p?>q")},
-    {"q's record before p's, or", RECORDS(ATOM(1), ATOM(0), OR(1, 0)), F("<p? + q?>true")},
-    {"q's record before p's, implies", RECORDS(ATOM(1), ATOM(0), IMPLIES(1, 0)), F("[p?]q")},
-    {"q's record before p's, until", RECORDS(ATOM(1), ATOM(0), UNTIL(1, 0)), F("<(p? ; step)*>q")},
-    {"q's record before p's, since", RECORDS(ATOM(1), ATOM(0), SINCE(1, 0)), F("<(back ; p?)*>q")},
-    {"not p since initial", RECORDS(INITIAL, ATOM(0), NOT(1), SINCE(2, 0)), F("<(back ; ([p?]false)?)*>[back]false")},
-    {"all leaves first", RECORDS(ATOM(2), ATOM(1), ATOM(0), NOT(1), NEXT(0), UNTIL(2, 3), OR(5, 4)),
+    {"q's record before p's, and", RECORDS(ATOM(1), ATOM(0), K(AND, 1, 0)), F("<p?>q")},
+    {"q's record before p's, or", RECORDS(ATOM(1), ATOM(0), K(OR, 1, 0)), F("<p? + q?>true")},
+    {"q's record before p's, implies", RECORDS(ATOM(1), ATOM(0), K(IMPLIES, 1, 0)), F("[p?]q")},
+    {"q's record before p's, until", RECORDS(ATOM(1), ATOM(0), K(UNTIL, 1, 0)), F("<(p? ; step)*>q")},
+    {"q's record before p's, since", RECORDS(ATOM(1), ATOM(0), K(SINCE, 1, 0)), F("<(back ; p?)*>q")},
+    {"not p since initial", RECORDS(K(INITIAL, 0, 0), ATOM(0), K(NOT, 1, 0), K(SINCE, 2, 0)),
+     F("<(back ; ([p?]false)?)*>[back]false")},
+    {"all leaves first", RECORDS(ATOM(2), ATOM(1), ATOM(0), K(NOT, 1, 0), K(NEXT, 0, 0), K(UNTIL, 2, 3), K(OR, 5, 4)),
      F("<(<(p? ; step)*>[q?]false)? + (<step>r)?>true")},
-    {"two branches interleaved", RECORDS(ATOM(1), ATOM(0), NEXT(0), PREVIOUS(1), NOT(2), NOT(3), AND(5, 4)),
+    {"two branches interleaved",
+     RECORDS(ATOM(1), ATOM(0), K(NEXT, 0, 0), K(PREVIOUS, 1, 0), K(NOT, 2, 0), K(NOT, 3, 0), K(AND, 5, 4)),
      F("<([(<back>p)?]false)?>[(<step>q)?]false")},
 
     /* core records alone */
@@ -139,22 +131,21 @@ static const struct expanded {
 static const struct records_case refused[] = {
     CASE(UNKNOWN_KIND, 1, "the last kind before the shorthands, after one", FINAL, R(PASTUREQUILL_NOT - 1, 0, 0)),
     CASE(UNKNOWN_KIND, 1, "the first kind past the shorthands, after one", FINAL, R(PASTUREQUILL_SINCE + 1, 0, 0)),
-    CASE(UNKNOWN_KIND, 1, "an unknown kind, whatever its other bytes hold, after a shorthand", FINAL,
-         Z(UINT8_MAX, 1, 65535, 65535)),
+    CASE(UNKNOWN_KIND, 1, "an unknown kind, whatever else it holds, after one", FINAL, Z(UINT8_MAX, 1, 65535, 65535)),
 
     /* the order inside a record: zeros, late children, sorts; no such atom is an atom's alone */
-    CASE(NOT_ZERO, 1, "a not of itself with a field b", R(PASTUREQUILL_NOT, 0, 1)),
+    CASE(NOT_ZERO, 1, "a not of itself with a field b", K(NOT, 0, 1)),
     CASE(NOT_ZERO, 1, "an until of itself with a zero byte that is none", Z(PASTUREQUILL_UNTIL, 1, 0, 0)),
-    CASE(NOT_ZERO, 1, "a next of a path with a field b", STEP, R(PASTUREQUILL_NEXT, 0, 1)),
-    CASE(LATE_CHILD, 1, "an and of a path and itself", STEP, AND(0, 1)),
-    CASE(LATE_CHILD, 1, "an or of itself and a path", STEP, OR(1, 0)),
+    CASE(NOT_ZERO, 1, "a next of a path with a field b", STEP, K(NEXT, 0, 1)),
+    CASE(LATE_CHILD, 1, "an and of a path and itself", STEP, K(AND, 0, 1)),
+    CASE(LATE_CHILD, 1, "an or of itself and a path", STEP, K(OR, 1, 0)),
 
     /* the order of records */
-    CASE(WRONG_SORT, 1, "an earlier shorthand's sort before a later kind", STEP, NOT(0), R(UINT8_MAX, 0, 0)),
-    CASE(LATE_CHILD, 1, "an earlier shorthand's child before a later zero", ONCE(0), R(PASTUREQUILL_FINAL, 1, 0)),
-    CASE(NOT_ZERO, 1, "an earlier shorthand's zero before a later atom", R(PASTUREQUILL_FINAL, 1, 0), ATOM(1)),
-    CASE(NO_SUCH_ATOM, 1, "an earlier atom before a later shorthand's zero", ATOM(1), R(PASTUREQUILL_NOT, 0, 1)),
-    CASE(UNKNOWN_KIND, 1, "an earlier kind before a later shorthand's child", R(UINT8_MAX, 0, 0), NOT(1)),
+    CASE(WRONG_SORT, 1, "an earlier shorthand's sort before a later kind", STEP, K(NOT, 0, 0), R(UINT8_MAX, 0, 0)),
+    CASE(LATE_CHILD, 1, "an earlier shorthand's child before a later zero", K(ONCE, 0, 0), K(FINAL, 1, 0)),
+    CASE(NOT_ZERO, 1, "an earlier shorthand's zero before a later atom", K(FINAL, 1, 0), ATOM(1)),
+    CASE(NO_SUCH_ATOM, 1, "an earlier atom before a later shorthand's zero", ATOM(1), K(NOT, 0, 1)),
+    CASE(UNKNOWN_KIND, 1, "an earlier kind before a later shorthand's child", R(UINT8_MAX, 0, 0), K(NOT, 1, 0)),
 
     /* the sort */
     CASE(WRONG_SORT, 1, "a star of a shorthand", FINAL, STAR(0), TRUE_, DIAMOND(1, 2)),
@@ -166,9 +157,9 @@ static const struct records_case refused[] = {
 
     /* the tree */
     CASE(NOT_A_TREE, 1, "a shorthand that nothing names", FINAL, TRUE_),
-    CASE(NOT_A_TREE, 1, "an argument that nothing names after a shorthand", TRUE_, TRUE_, NOT(0)),
-    CASE(NOT_A_TREE, 1, "one argument of two shorthands", ATOM(0), NOT(0), AND(0, 1)),
-    CASE(NOT_A_TREE, 1, "one argument of a shorthand and of a test", ATOM(0), TEST(0), NOT(0), DIAMOND(1, 2)),
+    CASE(NOT_A_TREE, 1, "an argument that nothing names after a shorthand", TRUE_, TRUE_, K(NOT, 0, 0)),
+    CASE(NOT_A_TREE, 1, "one argument of two shorthands", ATOM(0), K(NOT, 0, 0), K(AND, 0, 1)),
+    CASE(NOT_A_TREE, 1, "one argument of a shorthand and of a test", ATOM(0), TEST(0), K(NOT, 0, 0), DIAMOND(1, 2)),
 };
 
 /* ---- each shorthand */

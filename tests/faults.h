@@ -26,15 +26,15 @@ static const struct records_case faulty[] = {
 
     /* what must be zero */
     CASE(NOT_ZERO, 0, "the zero byte", Z(PASTUREQUILL_TRUE, 1, 0, 0)),
-    CASE(NOT_ZERO, 0, "a constant's field a", R(PASTUREQUILL_FALSE, 1, 0)),
-    CASE(NOT_ZERO, 0, "a constant's field b", R(PASTUREQUILL_TRUE, 0, 1)),
-    CASE(NOT_ZERO, 0, "the high byte of an unused field", R(PASTUREQUILL_TRUE, 0, 256)),
-    CASE(NOT_ZERO, 1, "an atom's field b", R(PASTUREQUILL_ATOM, 0, 1)),
-    CASE(NOT_ZERO, 1, "an atom's field b, high byte", R(PASTUREQUILL_ATOM, 0, 256)),
-    CASE(NOT_ZERO, 0, "a step's field a", R(PASTUREQUILL_STEP, 1, 0), TRUE_, DIAMOND(0, 1)),
-    CASE(NOT_ZERO, 0, "a back step's field b", R(PASTUREQUILL_BACK, 0, 1), TRUE_, DIAMOND(0, 1)),
-    CASE(NOT_ZERO, 0, "a test's field b", TRUE_, R(PASTUREQUILL_TEST, 0, 1), TRUE_, DIAMOND(1, 2)),
-    CASE(NOT_ZERO, 0, "a star's field b", STEP, R(PASTUREQUILL_STAR, 0, 1), TRUE_, DIAMOND(1, 2)),
+    CASE(NOT_ZERO, 0, "a constant's field a", K(FALSE, 1, 0)),
+    CASE(NOT_ZERO, 0, "a constant's field b", K(TRUE, 0, 1)),
+    CASE(NOT_ZERO, 0, "the high byte of an unused field", K(TRUE, 0, 256)),
+    CASE(NOT_ZERO, 1, "an atom's field b", K(ATOM, 0, 1)),
+    CASE(NOT_ZERO, 1, "an atom's field b, high byte", K(ATOM, 0, 256)),
+    CASE(NOT_ZERO, 0, "a step's field a", K(STEP, 1, 0), TRUE_, DIAMOND(0, 1)),
+    CASE(NOT_ZERO, 0, "a back step's field b", K(BACK, 0, 1), TRUE_, DIAMOND(0, 1)),
+    CASE(NOT_ZERO, 0, "a test's field b", TRUE_, K(TEST, 0, 1), TRUE_, DIAMOND(1, 2)),
+    CASE(NOT_ZERO, 0, "a star's field b", STEP, K(STAR, 0, 1), TRUE_, DIAMOND(1, 2)),
 
     /* the child's place */
     CASE(LATE_CHILD, 0, "a test of itself", TEST(0)),
@@ -75,8 +75,8 @@ static const struct records_case faulty[] = {
 
 /* What those refuse that take core kinds alone. */
 static const struct records_case not_core[] = {
-    CASE(UNKNOWN_KIND, 2, "the first shorthand", ATOM(0), R(PASTUREQUILL_NOT, 0, 0)),
-    CASE(UNKNOWN_KIND, 2, "the last shorthand", ATOM(0), ATOM(1), R(PASTUREQUILL_SINCE, 0, 1)),
+    CASE(UNKNOWN_KIND, 2, "the first shorthand", ATOM(0), K(NOT, 0, 0)),
+    CASE(UNKNOWN_KIND, 2, "the last shorthand", ATOM(0), ATOM(1), K(SINCE, 0, 1)),
 };
 
 /* All cases of these tables. */

@@ -1,5 +1,5 @@
 /* Bytes that end, or start, at a page that may not be touched: a read or a write outside them stops the test. What a
- * function may only read is in pages that can only be read. */
+ * function may only read is in pages that can only be read; what it may write has fresh bytes. */
 #ifndef GUARDED_H
 #define GUARDED_H
 
@@ -9,6 +9,16 @@
 #include <string.h>
 #include <sys/mman.h>
 #include <unistd.h>
+
+/* Fresh bytes: none is a value or a kind, no two of them are a literal of a translation, and they are not the same
+ * everywhere. */
+static inline uint8_t fresh_byte(size_t at) { return 0xc0 | at % 61; }
+
+static inline void make_fresh(void *room, size_t size)
+{
+    for (size_t at = 0; at < size; at++)
+        ((uint8_t *)room)[at] = fresh_byte(at);
+}
 
 enum guarded_edge { GUARDED_AT_END, GUARDED_AT_START };
 

@@ -3,7 +3,6 @@
  * that may only be read. */
 #define TEST_NAME "judge"
 
-#include "counts.h"
 #include "guarded.h"
 #include "rules.h"
 #include "tables.h"
@@ -57,9 +56,8 @@ static pasturequill_judged no(uint64_t rule, uint64_t instant)
 
 /* The translation of "p next" over 32 atoms, with the labels of step, atom and diamond. */
 enum { ON = COLUMN + 32, ATOM, WHOLE };
-#define NEXT                                                                                                      \
-    WORDS(ARROW(LATER, PREVIOUS + ON, ATOM), ARROW(LATER, ATOM, PREVIOUS + ON), ARROW(LAST, ON, NO),              \
-          ARROW(EVERY, ATOM, P), ARROW(EVERY, P, ATOM), ARROW(EVERY, WHOLE, ON), ARROW(EVERY, ON, WHOLE),         \
+#define NEXT                                                                                                    \
+    WORDS(SAME(LATER, PREVIOUS + ON, ATOM), ARROW(LAST, ON, NO), SAME(EVERY, ATOM, P), SAME(EVERY, WHOLE, ON), \
           ARROW(FIRST, YES, WHOLE))
 /* Two rows of these 35 columns: p and the three labels; the other atoms are 0. */
 #define NEXT_ROWS(p0, step0, atom0, diamond0, p1, step1, atom1, diamond1) \

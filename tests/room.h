@@ -2,8 +2,6 @@
 #ifndef ROOM_H
 #define ROOM_H
 
-#include "counts.h"
-#include "fresh.h"
 #include "guarded.h"
 #include "tables.h"
 
@@ -18,8 +16,7 @@ static inline uint8_t *guarded_fresh(size_t size, enum guarded_edge edge)
     return guarded_copy(fresh, size, edge, PROT_READ | PROT_WRITE);
 }
 
-/* What was written is at the start, if its bytes are known, and the rest is fresh. The first byte that differs is
- * told. */
+/* What was written is at the start, if its bytes are known, and the rest is fresh; the first other byte is told. */
 static inline void expect_room(const char *reason, const void *room, size_t size, struct bytes written)
 {
     const uint8_t *bytes = room;

@@ -4,7 +4,6 @@
  * A request is a struct request and then the bytes of its slices; an answer is a struct answer and then the bytes of
  * the same slices after the call. A slice ends at a page that may not be touched, so that a read or write past it ends
  * this process; in front of it are known bytes. */
-#include "fresh.h"
 #include "guarded.h"
 #include "pasturequill.h"
 
@@ -28,10 +27,7 @@ struct answer {
 /* How many known bytes are in front of a slice, and how many there may be in one. Together they fill pages. */
 enum { FRONT = 256, MOST_BYTES = (1 << 18) - FRONT };
 
-struct slice {
-    uint8_t *at;
-    size_t size; /* in bytes */
-};
+struct slice { uint8_t *at; size_t size; }; /* in bytes */
 
 static uint8_t fresh_front[FRONT];
 static uint8_t *ends[SLICES];
@@ -64,36 +60,29 @@ static int changed_in_front(struct slice slice) { return memcmp(slice.at - FRONT
 
 /* ---- calls */
 static uint16_t *words(struct slice slice) { return (uint16_t *)(void *)slice.at; }
-
 static size_t word_count(struct slice slice) { return slice.size / sizeof(uint16_t); }
 
 static struct answer counted(pasturequill_counted got) { return (struct answer){.results = {got.refusal, got.count}}; }
-
 static struct answer valued(pasturequill_valued got) { return (struct answer){.results = {got.refusal, got.value}}; }
-
 static struct answer judged(pasturequill_judged got)
 {
     return (struct answer){.results = {got.refusal, got.holds, got.rule, got.instant}};
 }
 
-static struct answer called(uint64_t service, const uint64_t *numbers, const struct slice *s)
+static struct answer called(uint64_t service, const uint64_t *n, const struct slice *s)
 {
     switch (service) {
-    case CHECK:
-        return (struct answer){.results = {pasturequill_check(s[0].at, s[0].size, numbers[0])}};
-    case EXPAND:
-        return counted(pasturequill_expand(s[0].at, s[0].size, numbers[0], s[1].at, s[1].size));
+    case CHECK: return (struct answer){.results = {pasturequill_check(s[0].at, s[0].size, n[0])}};
+    case EXPAND: return counted(pasturequill_expand(s[0].at, s[0].size, n[0], s[1].at, s[1].size));
     case VALUE:
-        return valued(
-            pasturequill_value(s[0].at, s[0].size, numbers[0], numbers[1], s[1].at, s[1].size, s[2].at, s[2].size));
+        return valued(pasturequill_value(s[0].at, s[0].size, n[0], n[1], s[1].at, s[1].size, s[2].at, s[2].size));
     case TRANSLATE:
-        return counted(pasturequill_translate(s[0].at, s[0].size, numbers[0], words(s[1]), word_count(s[1])));
+        return counted(pasturequill_translate(s[0].at, s[0].size, n[0], words(s[1]), word_count(s[1])));
     case JUDGE:
-        return judged(pasturequill_judge(words(s[0]), word_count(s[0]), numbers[0], numbers[1], s[1].at, s[1].size));
-    default:
-        must(0, "no such service");
-        return (struct answer){0};
+        return judged(pasturequill_judge(words(s[0]), word_count(s[0]), n[0], n[1], s[1].at, s[1].size));
     }
+    must(0, "no such service");
+    return (struct answer){0};
 }
 
 int main(void)

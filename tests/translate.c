@@ -12,17 +12,13 @@
 /* The atoms p and q, and the labels of records where these two are all. */
 enum { P = COLUMN, Q, X0, X1, X2, X3, X4, X5, X6, X7 };
 
-/* The rules of label x by what its record is: the same as another symbol; a step or a back step that goes on with c,
- * under a diamond or, weak, under a box; the smaller or the greater of two, or an implication. Of the whole formula it
- * is asserted too. */
-#define SAME(place, u, v) ARROW(place, u, v), ARROW(place, v, u)
+/* The rules of label x by what its record is, besides the smaller or the greater of two: the same as another symbol; a
+ * step or a back step that goes on with c, under a diamond or, weak, under a box; an implication; the whole formula. */
 #define IS(x, s) SAME(EVERY, x, s)
 #define NEXT(x, c) SAME(LATER, PREVIOUS + x, c), ARROW(LAST, x, NO)
 #define WEAK_NEXT(x, c) SAME(LATER, PREVIOUS + x, c), ARROW(LAST, YES, x)
 #define BEFORE(x, c) SAME(LATER, x, PREVIOUS + c), ARROW(FIRST, x, NO)
 #define WEAK_BEFORE(x, c) SAME(LATER, x, PREVIOUS + c), ARROW(FIRST, YES, x)
-#define SMALLER(x, u, v) ARROW(EVERY, x, u), ARROW(EVERY, x, v), EVERY, u, v, x, NO, NO
-#define GREATER(x, u, v) EVERY, x, YES, u, v, NO, ARROW(EVERY, u, x), ARROW(EVERY, v, x)
 #define IMPLICATION(x, u, v) \
     EVERY, x, u, v, NO, NO, ARROW(EVERY, NOT + u, x), ARROW(EVERY, v, x), EVERY, YES, YES, x, u, NOT + v
 #define WHOLE(x, s) IS(x, s), ARROW(FIRST, YES, x)

@@ -2,30 +2,16 @@
 
 use super::*;
 
-/// How a formula grows: how often each kind of path is taken, how often a modality is a box and a move goes back, and
-/// how sizes are split.
+/// How a formula grows: how often a path is a test, choice, sequence and star, how often a modality is a box and a move
+/// goes back, and how sizes are split.
 #[derive(Clone, Copy)]
-struct Habit {
-    test: usize,
-    choice: usize,
-    sequence: usize,
-    star: usize,
-    boxes: usize,
-    backs: usize,
-    split: Split,
-}
+struct Habit { paths: [usize; 4], boxes: usize, backs: usize, split: Split }
 
 #[derive(Clone, Copy)]
-enum Split {
-    Anywhere,
-    Halves,
-    First,
-    Second,
-}
+enum Split { Anywhere, Halves, First, Second }
 
-/// The kinds of path are test, choice, sequence and star.
-const fn habit([test, choice, sequence, star]: [usize; 4], boxes: usize, backs: usize, split: Split) -> Habit {
-    Habit { test, choice, sequence, star, boxes, backs, split }
+const fn habit(paths: [usize; 4], boxes: usize, backs: usize, split: Split) -> Habit {
+    Habit { paths, boxes, backs, split }
 }
 
 const HABITS: [Habit; 12] = [
@@ -45,17 +31,10 @@ const HABITS: [Habit; 12] = [
 
 /// What a path's place in a star asks of it: to go one way only, and to move, that is not to stand still.
 #[derive(Clone, Copy)]
-struct Way {
-    only: Option<u8>,
-    moves: bool,
-}
+struct Way { only: Option<u8>, moves: bool }
 
 /// A record that has no number yet; its children are other nodes.
-struct Node {
-    kind: u8,
-    atom: u8,
-    children: Vec<usize>,
-}
+struct Node { kind: u8, atom: u8, children: Vec<usize> }
 
 /// Where tame is asked for, all stars are such that translation takes them. Of a hundred formulas this many are
 /// shorthands.
@@ -98,10 +77,10 @@ impl Grower<'_> {
             let kind = self.random.pick(&[FALSE, TRUE]);
             return self.add(kind, 0, vec![]);
         }
-        let (mut first, mut second) = self.parts(size - 1);
-        if second == 2 && self.shorthands == 0 {
-            (first, second) = (first + 1, 1);
-        }
+        let (first, second) = match self.parts(size - 1) {
+            (first, 2) if self.shorthands == 0 => (first + 1, 1),
+            sizes => sizes,
+        };
         let kind = if self.random.percent(self.habit.boxes) { BOX } else { DIAMOND };
         let path = self.path(first, Way { only: None, moves: false });
         let end = self.formula(second);
@@ -131,17 +110,15 @@ impl Grower<'_> {
             let kind = self.move_within(way);
             return self.add(kind, 0, vec![]);
         }
-        let h = self.habit;
-        let test = if (size == 3 && self.shorthands == 0) || way.moves { 0 } else { h.test };
-        let star = if (self.tame && size == 3) || way.moves { 0 } else { h.star };
-        let choice = if size == 2 || (way.moves && size == 4) { 0 } else { h.choice };
-        let sequence = if size == 2 { 0 } else { h.sequence };
+        let [test, choice, sequence, star] = self.habit.paths;
+        let test = if (size == 3 && self.shorthands == 0) || way.moves { 0 } else { test };
+        let choice = if size == 2 || (way.moves && size == 4) { 0 } else { choice };
+        let mut sequence = if size == 2 { 0 } else { sequence };
+        let mut star = if (self.tame && size == 3) || way.moves { 0 } else { star };
         // Where a habit leaves nothing, a path of two records is a star, a longer one a sequence.
-        let (star, sequence) = match test + choice + sequence + star {
-            0 if size == 2 => (1, 0),
-            0 => (0, 1),
-            _ => (star, sequence),
-        };
+        if test + choice + sequence + star == 0 {
+            (star, sequence) = if size == 2 { (1, 0) } else { (0, 1) };
+        }
         let drawn = self.random.below(test + choice + sequence + star);
         if drawn < test {
             let tested = self.formula(size - 1);
@@ -152,28 +129,19 @@ impl Grower<'_> {
             self.add(STAR, 0, vec![body])
         } else {
             let kind = if drawn < test + star + choice { CHOICE } else { SEQUENCE };
-            let (mut first, mut second) = self.parts(size - 1);
-            let (mut in_first, mut in_second) = (way, way);
-            if way.moves && kind == CHOICE {
+            let (first, second) = match (self.parts(size - 1), kind) {
+                (sizes, _) if !way.moves => sizes,
                 // Both arms move.
-                (first, second) = match (first, second) {
-                    (2, _) => (1, second + 1),
-                    (_, 2) => (first + 1, 1),
-                    sizes => sizes,
-                };
-            } else if way.moves {
-                // One of the parts moves.
-                if (first, second) == (2, 2) {
-                    (first, second) = (1, 3);
-                }
-                let other = Way { moves: false, ..way };
-                if second != 2 && (first == 2 || self.random.percent(50)) {
-                    in_first = other;
-                } else {
-                    in_second = other;
-                }
-            }
-            let (p, q) = (self.path(first, in_first), self.path(second, in_second));
+                ((2, second), CHOICE) => (1, second + 1),
+                ((first, 2), CHOICE) => (first + 1, 1),
+                // One of the parts moves, the other is free.
+                ((2, 2), _) => (1, 3),
+                (sizes, _) => sizes,
+            };
+            let one_free = way.moves && kind == SEQUENCE;
+            let first_free = one_free && second != 2 && (first == 2 || self.random.percent(50));
+            let within = |free: bool| Way { moves: way.moves && !free, ..way };
+            let (p, q) = (self.path(first, within(first_free)), self.path(second, within(one_free && !first_free)));
             self.add(kind, 0, vec![p, q])
         }
     }

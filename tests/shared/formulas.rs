@@ -62,18 +62,11 @@ impl Formula {
 // ---- the table of kinds
 
 #[derive(Clone, Copy, PartialEq)]
-pub enum Sort {
-    Formula,
-    Path,
-}
+pub enum Sort { Formula, Path }
 
 /// What a field holds.
 #[derive(Clone, Copy, PartialEq)]
-pub enum Field {
-    Nothing,
-    AtomNumber,
-    Child(Sort),
-}
+pub enum Field { Nothing, AtomNumber, Child(Sort) }
 
 /// What the table of kinds says of one: the sort, and what fields a and b hold.
 pub type Line = (Sort, Field, Field);
@@ -112,9 +105,7 @@ pub fn children(formula: &Formula, r: usize) -> Vec<usize> {
 
 /// The first refusal of record r, the records before it having none.
 pub fn record_refusal(formula: &Formula, r: usize) -> Refusal {
-    let Some(held) = formula.held(r) else {
-        return UnknownKind;
-    };
+    let Some(held) = formula.held(r) else { return UnknownKind };
     let some = |fault: &dyn Fn(Field, usize) -> bool| held.iter().any(|&(field, v)| fault(field, v));
     let stray = |field, v| field == Field::Nothing && v != 0;
     let late = |field, v| matches!(field, Field::Child(_)) && v >= r;

@@ -6,34 +6,21 @@
 
 use super::*;
 use std::env::args;
-use std::io::{self, BufReader, BufWriter, Read, Write};
+use std::io::{self, BufReader, Read, Write};
 use std::process::{Child, ChildStdin, ChildStdout, Command, Stdio};
 
 /// The services, numbered as server.c has them.
 #[derive(Clone, Copy)]
-pub enum Service {
-    Check,
-    Expand,
-    Value,
-    Translate,
-    Judge,
-}
+pub enum Service { Check, Expand, Value, Translate, Judge }
 
 const SLICES: usize = 3;
 const RESULTS: usize = 4;
 
 /// What came of a call: the numbers that were given back, and what each slice holds after it.
-pub struct Outcome {
-    pub results: [u64; RESULTS],
-    pub slices: Vec<Vec<u8>>,
-}
+pub struct Outcome { pub results: Vec<u64>, pub slices: Vec<Vec<u8>> }
 
 /// A slice that is lent to a call: what it holds before, and what must then be at its start; all else must stay.
-pub struct Lent<'a> {
-    name: &'static str,
-    before: Vec<u8>,
-    written: &'a [u8],
-}
+pub struct Lent<'a> { name: &'static str, before: Vec<u8>, written: &'a [u8] }
 
 impl<'a> Lent<'a> {
     /// A slice that is only read.
@@ -51,7 +38,7 @@ impl<'a> Lent<'a> {
 
 pub struct Library {
     process: Child,
-    requests: BufWriter<ChildStdin>,
+    requests: ChildStdin,
     answers: BufReader<ChildStdout>,
 }
 
@@ -66,42 +53,30 @@ impl Library {
             .stdout(Stdio::piped())
             .spawn()
             .unwrap_or_else(|error| panic!("{program}: {error}"));
-        let requests = BufWriter::new(process.stdin.take().expect("its input is a pipe"));
+        let requests = process.stdin.take().expect("its input is a pipe");
         let answers = BufReader::new(process.stdout.take().expect("its output is a pipe"));
         Library { process, requests, answers }
     }
 
-    fn number(&mut self) -> io::Result<u64> {
-        let mut bytes = [0; 8];
+    fn bytes(&mut self, size: usize) -> io::Result<Vec<u8>> {
+        let mut bytes = vec![0; size];
         self.answers.read_exact(&mut bytes)?;
-        Ok(u64::from_le_bytes(bytes))
+        Ok(bytes)
     }
 
     /// The outcome, and how many slices were written in front of.
     fn exchange(&mut self, service: Service, numbers: [u64; 2], slices: &[&[u8]]) -> io::Result<(Outcome, u64)> {
-        let mut sizes = [0; SLICES];
-        slices.iter().enumerate().for_each(|(i, slice)| sizes[i] = slice.len());
-        let words = [service as u64].into_iter().chain(numbers).chain(sizes.map(|size| size as u64));
-        for word in words {
-            self.requests.write_all(&word.to_le_bytes())?;
-        }
-        for slice in slices {
-            self.requests.write_all(slice)?;
-        }
-        self.requests.flush()?;
+        let mut words = vec![service as u64, numbers[0], numbers[1]];
+        words.extend((0..SLICES).map(|i| slices.get(i).map_or(0, |slice| slice.len() as u64)));
+        let request: Vec<u8> = words.into_iter().flat_map(u64::to_le_bytes).chain(slices.concat()).collect();
+        self.requests.write_all(&request)?;
 
-        let mut results = [0; RESULTS];
-        for result in &mut results {
-            *result = self.number()?;
-        }
-        let beside = self.number()?;
-        let mut after = vec![];
-        for slice in slices {
-            let mut bytes = vec![0; slice.len()];
-            self.answers.read_exact(&mut bytes)?;
-            after.push(bytes);
-        }
-        Ok((Outcome { results, slices: after }, beside))
+        let head = self.bytes((RESULTS + 1) * 8)?;
+        let mut results: Vec<u64> =
+            head.chunks(8).map(|word| u64::from_le_bytes(word.try_into().expect("eight bytes"))).collect();
+        let beside = results.pop().expect("the last number of an answer");
+        let slices = slices.iter().map(|slice| self.bytes(slice.len())).collect::<io::Result<_>>()?;
+        Ok((Outcome { results, slices }, beside))
     }
 
     /// Calls a service: its numbers and slices in the order of its declaration, 0 for a number that it does not take.

@@ -5,11 +5,7 @@ use super::*;
 use std::ops::Range;
 
 /// A word of a rule's body or head.
-pub struct Literal {
-    pub symbol: u16,
-    pub previous: bool,
-    pub negated: bool,
-}
+pub struct Literal { pub symbol: u16, pub previous: bool, pub negated: bool }
 
 /// A literal is a symbol, plus one number for the previous instant, plus another for negation.
 pub fn literal(word: u16) -> Literal {
