@@ -16,8 +16,7 @@ static const struct claim claims[] = {
 };
 
 /* ---- the automaton */
-/* Listing 6: where each state leads, by whether a and b hold. States 1 and 4 are the first and the final one, 2 has no
- * way out. */
+/* Listing 6: where each state leads, by whether a and b hold. State 1 is first, 4 final, and 2 has no way out. */
 static const int leads_to[][2][2] = {
     [1] = {{2, 3}, {2, 3}},
     [2] = {{2, 2}, {2, 2}},

@@ -2,8 +2,7 @@
  *
  * The elevator stands at the middle floor and is called to the lowest and the highest; a plan must have served both at
  * the end. The paper's Table 3 has the number of plans, and says that two keep the rule at each horizon: all the way up
- * and then straight down, or the other way round, and then waiting. A horizon counts actions, so a trace has an instant
- * more. */
+ * and then straight down, or the other way round, and then waiting. A trace has one instant more than actions. */
 #include "elevator.h"
 #include "worked.h"
 
@@ -82,8 +81,7 @@ static void show_plans(const struct formula *rule, const struct row *row)
 }
 
 /* ---- values at each instant */
-/* Plans, and what the formula in (13) that is twice negated is worth: 2 where the rest of the plan is rides to calls
- * and then waiting. */
+/* Plans, and what (13) without its negations is worth: 2 where the rest of the plan is rides to calls, then waiting. */
 static const struct {
     const char *says, *plan, *values;
 } shown[] = {

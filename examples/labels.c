@@ -136,8 +136,7 @@ struct search {
     size_t traces, fillings, kept, right;
 };
 
-/* Tries all fillings over one trace with all rules but the last, and counts those that keep them and those of them that
- * are the values. */
+/* Tries all fillings over one trace with all rules but the last; counts those that keep them, and the right ones. */
 static void try_fillings(const struct example *e, const struct trace *t, struct search *s)
 {
     size_t n = LABELS * t->instants;

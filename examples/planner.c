@@ -64,8 +64,7 @@ static uint8_t literal(uint16_t word, size_t k)
     return word == PASTUREQUILL_SYMBOL_FALSE ? 0 : word == PASTUREQUILL_SYMBOL_TRUE ? 2 : *cell(word, k);
 }
 
-/* Raises the label that a rule leads to, if it leads to one label alone, to what its body is worth; tells whether the
- * label changed. */
+/* Raises the label that a rule leads to, if it is one alone, to what its body is worth; tells whether it changed. */
 static int raise_head(const uint16_t *words, size_t k)
 {
     int one_label = words[3] % PASTUREQUILL_MARK_PREVIOUS >= FIRST_LABEL && words[4] == PASTUREQUILL_SYMBOL_FALSE;

@@ -54,8 +54,7 @@ static int next_total(struct trace *t)
     return 0;
 }
 
-/* Counts on through the traces with the same there, from a total one: 0 when it is back there. All between have less
- * here. */
+/* Counts on through the traces with the same there and less here, from a total one: 0 when it is back at it. */
 static int next_lower(struct trace *t)
 {
     for (size_t c = 0; c < t->atoms * t->instants; c++) {

@@ -111,8 +111,7 @@ static inline void print_trace(const struct trace *t, const char *names)
     }
 }
 
-/* Prints a formula's values over a trace, and the word: they are due as digits. Gives the value at the first
- * instant. */
+/* Prints a formula's values over a trace, and the word: they are due as digits. Gives the first instant's value. */
 static inline uint8_t show_values(const char *name, const struct formula *f, const struct trace *t, const char *due)
 {
     uint8_t row[PASTUREQUILL_MOST_INSTANTS], value = value_row(f, t, row);

@@ -45,8 +45,7 @@ static inline struct elevator after(struct elevator e, char action)
     return e;
 }
 
-/* <((up* + down*) ; ready? ; serve)* ; wait*>final, an action being tested and then a step, and ready? a path that is
- * there already. */
+/* <((up* + down*) ; ready? ; serve)* ; wait*>final: an action is a test and then a step; ready? is there already. */
 static inline size_t kept(struct formula *f, size_t ready)
 {
     size_t up = star(f, go(f, UP)), down = star(f, go(f, DOWN));

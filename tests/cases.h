@@ -45,6 +45,18 @@ static inline struct bytes records_of(const struct source *s, struct formula *ro
     return bytes_of(room);
 }
 
+/* What is written with something before it and after it, so many times. */
+static inline struct formula nested(size_t times, const char *before, const char *inner, const char *after)
+{
+    char text[1 << 12], *end = text;
+    for (size_t i = 0; i < times; i++)
+        end = stpcpy(end, before);
+    end = stpcpy(end, inner);
+    for (size_t i = 0; i < times; i++)
+        end = stpcpy(end, after);
+    return written("pqr", text);
+}
+
 /* Records of one field on top of each other, so many. */
 static inline size_t add_times(struct formula *f, uint8_t kind, size_t times, size_t g)
 {

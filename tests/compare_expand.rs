@@ -1,5 +1,4 @@
-//! pasturequill_expand against an expander that was written apart from it, over many random inputs, accepted and
-//! refused.
+//! pasturequill_expand against an expander that was written apart from it, over random inputs, accepted and refused.
 //!
 //! The expander here follows the specification line by line: it makes the core tree that a formula stands for, and then
 //! writes that tree in postorder. Compared are the refusal, the count, every byte, and the bytes around. What was
@@ -13,11 +12,7 @@ use shared::*;
 // ---- the expansion (Specification, Records)
 
 /// A formula or path of core kinds alone.
-struct Core {
-    kind: u8,
-    atom: usize,
-    parts: Vec<Core>,
-}
+struct Core { kind: u8, atom: usize, parts: Vec<Core> }
 
 fn leaf(kind: u8) -> Core { Core { kind, atom: 0, parts: vec![] } }
 fn one(kind: u8, part: Core) -> Core { Core { kind, atom: 0, parts: vec![part] } }
@@ -74,15 +69,9 @@ fn expansion(formula: &Formula) -> Vec<Record> {
 
 // ---- what is refused (Specification, Refusals)
 
-/// An input, what must come back, and what must be written. `out` is how many records come out of a formula, taken or
-/// not.
+/// An input, what must come back and be written, and how many records come `out` of a formula, taken or not.
 #[derive(Debug)]
-struct Tried {
-    input: Input,
-    refusal: Refusal,
-    out: usize,
-    written: Vec<u8>,
-}
+struct Tried { input: Input, refusal: Refusal, out: usize, written: Vec<u8> }
 
 /// What every service asks of a formula; the records that come out; room.
 fn tried(input: Input) -> Tried {
@@ -120,30 +109,26 @@ fn insert_above(random: &mut Random, formula: &mut Formula, r: usize, kind: u8) 
     formula.records = records.concat();
 }
 
-/// Puts shorthands into a formula until so many records come out of it, if two or more are missing: some with two
+/// A formula with shorthands put into it until so many records come out of it, if two or more are missing: some with two
 /// records of their own and some with three, never so that one is left.
-fn lengthen(random: &mut Random, formula: &mut Formula, records: usize) {
-    let mut missing = records.saturating_sub(expansion(formula).len());
+fn lengthened(random: &mut Random, mut formula: Formula, records: usize) -> Formula {
+    let mut missing = records.saturating_sub(expansion(&formula).len());
     while missing >= 2 {
         let own = if missing == 3 || (missing > 4 && random.percent(50)) { 3 } else { 2 };
-        let kind = if own == 3 {
-            random.pick(&[NOT, EVENTUALLY, ALWAYS, ONCE, SO_FAR])
-        } else {
-            random.pick(&[NEXT, WEAK_NEXT, PREVIOUS, WEAK_PREVIOUS])
-        };
-        let formulas: Vec<usize> = (0..formula.count()).filter(|&r| sort(formula, r) == Sort::Formula).collect();
-        let r = random.pick(&formulas);
-        insert_above(random, formula, r, kind);
+        let (twos, threes) = ([NEXT, WEAK_NEXT, PREVIOUS, WEAK_PREVIOUS], [NOT, EVENTUALLY, ALWAYS, ONCE, SO_FAR]);
+        let kind = if own == 3 { random.pick(&threes) } else { random.pick(&twos) };
+        let r = some_record(random, &formula, |r| sort(&formula, r) == Sort::Formula).expect("the whole is a formula");
+        insert_above(random, &mut formula, r, kind);
         missing -= own;
     }
+    formula
 }
 
 /// A formula out of which so many records come, as many as there may be at most; there is none for two.
 fn formula_out(random: &mut Random, records: usize) -> Formula {
     let size = if records <= 4 { 1 } else { random.between(3, records - 2) };
-    let mut formula = formula_in(random, size, 0);
-    lengthen(random, &mut formula, records);
-    formula
+    let formula = formula_in(random, size, 0);
+    lengthened(random, formula, records)
 }
 
 /// A formula whose expansion has about as many records as there may be.
@@ -153,9 +138,8 @@ fn formula_at_limit(random: &mut Random) -> Formula {
     let (most, more) = (MOST_RECORDS, MOST_RECORDS + 1);
     let records =
         random.pick(&[most - 5, most - 2, most - 1, most, most, most, more, more, more, more + 1, more + 2, more + 6]);
-    let mut formula = formula_in(random, size, shorthands);
-    lengthen(random, &mut formula, records);
-    formula
+    let formula = formula_in(random, size, shorthands);
+    lengthened(random, formula, records)
 }
 
 /// Room that is exact or longer for a formula that is a tree; any room where it does not come to that.
@@ -207,18 +191,14 @@ fn random_input(random: &mut Random) -> Input {
     if random.percent(4) {
         return scattered_input(random, true);
     }
-    let formula = match random.below(20) {
-        0..=15 => {
-            let size = random_size(random);
-            let shorthands = random.pick(&[0, 5, 20, 40, 60, 100]);
-            formula_in(random, size, shorthands)
-        }
-        16..=18 => formula_at_limit(random),
-        _ => {
-            let size = random.between(100, MOST_RECORDS);
-            let shorthands = random.pick(&[1, 2, 10, 50, 100]);
-            formula_in(random, size, shorthands)
-        }
+    let sizes = match random.below(20) {
+        0..=15 => Some((random_size(random), random.pick(&[0, 5, 20, 40, 60, 100]))),
+        16..=18 => None,
+        _ => Some((random.between(100, MOST_RECORDS), random.pick(&[1, 2, 10, 50, 100]))),
+    };
+    let formula = match sizes {
+        Some((size, shorthands)) => formula_in(random, size, shorthands),
+        None => formula_at_limit(random),
     };
     let input = input_of(random, formula);
     damaged(random, input, damage)
@@ -226,42 +206,34 @@ fn random_input(random: &mut Random) -> Input {
 
 // ---- the calls
 
-/// Expands records in so much room and says what is wrong with the outcome, if anything is.
-fn expand_difference(
-    library: &mut Library,
-    random: &mut Random,
-    (records, atoms): (&[u8], u64),
-    room: usize,
-    refusal: Refusal,
-    written: &[u8],
-) -> Option<String> {
-    let lent = [Lent::to_read("records", records), Lent::to_write("output", random, room, written)];
-    library.difference(Service::Expand, [atoms, 0], &lent, &[refusal as u64, (written.len() / RECORD_SIZE) as u64])
+/// Expands an input and says what is wrong with the outcome, if anything is.
+fn expand_difference(tried: &Tried, random: &mut Random, library: &mut Library) -> Option<String> {
+    let Tried { input: Input { formula, room }, refusal, written, .. } = tried;
+    let lent = [Lent::to_read("records", &formula.records), Lent::to_write("output", random, *room, written)];
+    let answer = [*refusal as u64, (written.len() / RECORD_SIZE) as u64];
+    library.difference(Service::Expand, [formula.atoms, 0], &lent, &answer)
 }
 
 /// Says what is wrong with records that came out, if anything is: they are a formula, and expand to themselves.
-fn unsettled(library: &mut Library, random: &mut Random, core: &[u8], atoms: u64) -> Option<String> {
-    let checked = library.difference(Service::Check, [atoms, 0], &[Lent::to_read("records", core)], &[0]);
-    if let Some(what) = checked {
+fn unsettled(tried: &Tried, random: &mut Random, library: &mut Library) -> Option<String> {
+    let formula = Formula { records: tried.written.clone(), ..tried.input.formula };
+    let lent = [Lent::to_read("records", &formula.records)];
+    if let Some(what) = library.difference(Service::Check, [formula.atoms, 0], &lent, &[0]) {
         return Some(format!("checking what came out: {what}"));
     }
-    let expanded = expand_difference(library, random, (core, atoms), core.len(), Accepted, core);
+    let input = Input { room: formula.records.len(), formula };
+    let expanded = expand_difference(&Tried { input, written: tried.written.clone(), ..*tried }, random, library);
     expanded.map(|what| format!("expanding what came out: {what}"))
 }
 
 /// Calls the library on an input and says what is wrong with the outcome, if anything is.
 fn difference(tried: &Tried, random: &mut Random, library: &mut Library) -> Option<String> {
-    let Tried { input: Input { formula, room }, refusal, written, .. } = tried;
-    let wrong = expand_difference(library, random, (&formula.records, formula.atoms), *room, *refusal, written);
-    match (wrong, refusal) {
-        (None, Accepted) => unsettled(library, random, written, formula.atoms),
-        (wrong, _) => wrong,
-    }
+    let wrong = expand_difference(tried, random, library);
+    if wrong.is_none() && tried.accepted() { unsettled(tried, random, library) } else { wrong }
 }
 
 // ---- the run
 
-#[rustfmt::skip]
 const NAMES: [&str; 16] = [
     "not", "and", "or", "implies", "final", "initial", "next", "weak next", "previous", "weak previous", "eventually",
     "always", "once", "so far", "until", "since",
@@ -350,8 +322,7 @@ const CASES: [Case<Tried>; 19] = [
     ("not a tree by an argument of a shorthand", |t| t.refusal == NotATree && t.argument_shared()),
 ];
 
-/// First every number of records in and every number out, undamaged; then whatever comes. No two records come out of a
-/// formula.
+/// First every number of records in and every number out, which is not two, undamaged; then whatever comes.
 fn drawn(random: &mut Random, i: usize) -> Tried {
     let formula = match (i, i.checked_sub(MOST_RECORDS)) {
         (1..=MOST_RECORDS, _) => formula_in(random, i, if i == 2 { 100 } else { 0 }),

@@ -1,8 +1,7 @@
 //! What the rules of pasturequill_translate say against the values that pasturequill_value gives, over small formulas.
 //!
 //! All fillings of the labels are searched: exactly one meets all rules but the last, its labels of formulas are the
-//! values, and with the last rule there is one exactly if the formula is worth 2. Every input is drawn from a fixed
-//! seed.
+//! values, and with the last rule there is one exactly if the formula is worth 2. All inputs are from a fixed seed.
 
 mod shared;
 
@@ -10,8 +9,7 @@ use shared::*;
 
 // ---- fillings of the labels
 
-/// The records in an order in which a search soon knows what each rule speaks of: what a path goes on with comes before
-/// the path.
+/// The records in an order in which a search soon knows what each rule speaks of: first what a path goes on with.
 fn search_order(formula: &Formula, r: usize, order: &mut Vec<usize>) {
     let star = formula.kind(r) == STAR;
     if star {

@@ -1,6 +1,6 @@
-//! pasturequill_judge against a judge that was written apart from it, over many random inputs, accepted and refused.
+//! pasturequill_judge against a judge that was written apart from it, over random inputs, accepted and refused.
 //!
-//! The judge here follows the specification sentence by sentence: what a literal is worth, where a rule is looked at, when it
+//! The judge follows the specification sentence by sentence: what a literal is worth, where a rule is looked at, when it
 //! holds, which rule is the first that fails, and what is refused. Every input is drawn from a fixed seed. Compared are
 //! all four numbers of the answer, and that nothing in or around the rules and cells was written to.
 
@@ -10,12 +10,7 @@ use shared::*;
 
 /// What is handed to the library.
 #[derive(Debug)]
-struct Input {
-    rules: Vec<u16>,
-    width: u64,
-    instants: u64,
-    cells: Vec<u8>,
-}
+struct Input { rules: Vec<u16>, width: u64, instants: u64, cells: Vec<u8> }
 
 impl Input {
     /// The whole rules among the words.
@@ -76,33 +71,21 @@ fn causes(input: &Input) -> Vec<Cause> {
     found.iter().filter(|(_, there)| *there).map(|&(cause, _)| cause).collect()
 }
 
-/// What must come of an input.
-#[derive(PartialEq, Debug)]
-enum Verdict {
-    Refused(Refusal),
-    Yes,
-    /// The first rule that fails, and its first failing instant.
-    No(usize, usize),
-}
-
-/// An input, every cause to refuse it, and what must come of it.
+/// An input, every cause to refuse it, and what must come back: the refusal, whether all rules hold, the first rule that
+/// fails, and its first failing instant.
 #[derive(Debug)]
-struct Tried {
-    input: Input,
-    causes: Vec<Cause>,
-    verdict: Verdict,
-}
+struct Tried { input: Input, causes: Vec<Cause>, answer: [u64; 4] }
 
 /// Sizes, then rules, then cells; else yes, or the first failure.
 fn tried(input: Input) -> Tried {
     let causes = causes(&input);
     let order = [WrongSize, WrongRules, WrongCell];
     let refused = order.into_iter().find(|&refusal| causes.iter().any(|cause| cause.refusal() == refusal));
-    let verdict = match refused {
-        Some(refusal) => Verdict::Refused(refusal),
-        None => first_failure(&input).map_or(Verdict::Yes, |(i, k)| Verdict::No(i, k)),
+    let answer = match refused {
+        Some(refusal) => [refusal as u64, 0, 0, 0],
+        None => first_failure(&input).map_or([0, 1, 0, 0], |(i, k)| [0, 0, i as u64, k as u64]),
     };
-    Tried { input, causes, verdict }
+    Tried { input, causes, answer }
 }
 
 // ---- random rules
@@ -113,12 +96,7 @@ fn unused(place: u16) -> [u16; RULE_SIZE] {
 }
 
 /// What rules are drawn over.
-struct Drawn<'a> {
-    random: &'a mut Random,
-    width: usize,
-    instants: usize,
-    cells: Vec<u8>,
-}
+struct Drawn<'a> { random: &'a mut Random, width: usize, instants: usize, cells: Vec<u8> }
 
 impl Drawn<'_> {
     fn word(&mut self, place: u16) -> u16 {
@@ -352,15 +330,9 @@ fn random_input(random: &mut Random) -> Input {
 // ---- the call
 
 /// Calls the library on an input and says what is wrong with the outcome, if anything is.
-fn difference(tried: &Tried, library: &mut Library) -> Option<String> {
-    let input = &tried.input;
+fn difference(Tried { input, answer, .. }: &Tried, library: &mut Library) -> Option<String> {
     let lent = [Lent::to_read("rules", &as_bytes(&input.rules)), Lent::to_read("cells", &input.cells)];
-    let answer = match tried.verdict {
-        Verdict::Refused(refusal) => [refusal as u64, 0, 0, 0],
-        Verdict::Yes => [0, 1, 0, 0],
-        Verdict::No(rule, instant) => [0, 0, rule as u64, instant as u64],
-    };
-    library.difference(Service::Judge, [input.width, input.instants], &lent, &answer)
+    library.difference(Service::Judge, [input.width, input.instants], &lent, answer)
 }
 
 // ---- the run
@@ -369,9 +341,11 @@ impl Tried {
     fn caused(&self, refusal: Refusal) -> bool { self.causes.iter().any(|cause| cause.refusal() == refusal) }
     fn judged(&self) -> bool { self.causes.is_empty() }
     /// A yes to a given number of rules.
-    fn yes(&self, rules: impl Fn(usize) -> bool) -> bool { self.verdict == Verdict::Yes && rules(self.input.count()) }
+    fn yes(&self, rules: impl Fn(usize) -> bool) -> bool { self.answer[1] == 1 && rules(self.input.count()) }
     /// A no at a rule and an instant that are such.
-    fn no(&self, at: impl Fn(usize, usize) -> bool) -> bool { matches!(self.verdict, Verdict::No(i, k) if at(i, k)) }
+    fn no(&self, at: impl Fn(usize, usize) -> bool) -> bool {
+        matches!(self.answer, [0, 0, i, k] if at(i as usize, k as usize))
+    }
     fn no_by(&self, place: u16) -> bool { self.no(|i, _| self.input.rules[RULE_SIZE * i] == place) }
 }
 

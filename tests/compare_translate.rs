@@ -1,7 +1,6 @@
-//! pasturequill_translate against a translator that was written apart from it, over many random inputs, accepted and
-//! refused.
+//! pasturequill_translate against a translator written apart from it, over random inputs, accepted and refused.
 //!
-//! The translator here follows the specification sentence by sentence: it climbs from a path to find what it goes on with,
+//! The translator follows the specification sentence by sentence: it climbs from a path to find what it goes on with,
 //! and goes down a star's body to see whether it may stand still or turns. Every input is drawn from a fixed seed.
 //! Compared are the refusal, the count, every word, and the words around.
 
@@ -105,13 +104,7 @@ fn star_faults(formula: &Formula, star: usize) -> Vec<Refusal> {
 /// An input, what must come back, and what must be written; for records that are a formula also what is wrong with each
 /// star that something is wrong with, and how many words its rules have.
 #[derive(Debug)]
-struct Tried {
-    input: Input,
-    refusal: Refusal,
-    faults: Vec<Vec<Refusal>>,
-    needed: usize,
-    written: Vec<u16>,
-}
+struct Tried { input: Input, refusal: Refusal, faults: Vec<Vec<Refusal>>, needed: usize, written: Vec<u16> }
 
 /// What every service asks of a formula; stars from the first; room.
 fn tried(input: Input) -> Tried {

@@ -1,13 +1,9 @@
-//! pasturequill_value against an evaluator that was written apart from it, over many random inputs, accepted and
-//! refused.
+//! pasturequill_value against an evaluator that was written apart from it, over random inputs, accepted and refused.
 //!
 //! The evaluator follows definition 1 of source 004 and not the three-valued reading that the library is proved
 //! against: it asks what a formula's truth is in two traces, the given one and the one in which all that is assumed
 //! counts as proved, with two truth values each; theorem 1 of that paper says which of the three values this comes to.
-//! What is refused is written here anew, from the specification.
-//!
-//! Every input is drawn from a fixed seed. Compared are the refusal, the value, every byte of the table, and the bytes
-//! around it.
+//! Every input is drawn from a fixed seed. Compared are the refusal, the value, the whole table, and the bytes around.
 
 mod shared;
 
@@ -16,17 +12,11 @@ use std::array::from_fn;
 
 /// What is handed to the library; `room` is the table's length.
 #[derive(Debug)]
-struct Input {
-    formula: Formula,
-    instants: u64,
-    cells: Vec<u8>,
-    room: usize,
-}
+struct Input { formula: Formula, instants: u64, cells: Vec<u8>, room: usize }
 
 // ---- satisfaction in two traces (source 004, definition 1)
 
-/// Of an HT-trace ⟨H,T⟩ two things are asked: what it satisfies itself, and what the total trace ⟨T,T⟩ does. A box asks
-/// both.
+/// Of an HT-trace ⟨H,T⟩ it is asked what it satisfies itself, and what the total trace ⟨T,T⟩ does; a box asks both.
 #[derive(Clone, Copy, PartialEq)]
 enum Trace { Given, Total }
 
@@ -43,10 +33,7 @@ fn those(instants: usize, such: impl Fn(usize) -> bool) -> Instants {
 
 /// What each record says of one trace: where a formula is satisfied, and where a path leads.
 #[derive(Default)]
-struct Satisfied {
-    holds: Vec<Instants>,
-    leads: Vec<Relation>,
-}
+struct Satisfied { holds: Vec<Instants>, leads: Vec<Relation> }
 
 /// Whether an atom is in the first set of a trace's pair at an instant: that is H for the given trace and T for the
 /// total one. A cell of 2 is in both sets, a cell of 1 in T alone.
@@ -66,7 +53,7 @@ fn repeated(pass: &Relation, k: usize) -> Instants {
     found
 }
 
-/// Where record r, a formula, is satisfied in a trace. `total` has all records before it, and `here` those of the trace.
+/// Where record r, a formula, is satisfied in a trace; `here` is what the records before it say of that trace.
 fn satisfied_at(input: &Input, r: usize, trace: Trace, here: &Satisfied, total: &Satisfied) -> Instants {
     let (atoms, instants) = (input.formula.atoms as usize, input.instants as usize);
     let (a, b) = (input.formula.a(r), input.formula.b(r));
@@ -118,8 +105,7 @@ fn satisfied(input: &Input) -> (Satisfied, Satisfied) {
     (given, total)
 }
 
-/// Theorem 1: 2 where the given trace satisfies, 1 where only the total one does, else 0. What is proved is also
-/// assumed.
+/// Theorem 1: 2 where the given trace satisfies, and with it the total one; 1 where only the total one does; else 0.
 fn three_valued(given: bool, total: bool) -> u8 {
     assert!(total || !given, "satisfied in the given trace and not in the total one");
     match (given, total) {
@@ -143,12 +129,7 @@ fn refusal(input: &Input) -> Refusal {
 
 /// An input, what must come back, and what must then be in the table's first bytes.
 #[derive(Debug)]
-struct Tried {
-    input: Input,
-    refusal: Refusal,
-    value: u8,
-    written: Vec<u8>,
-}
+struct Tried { input: Input, refusal: Refusal, value: u8, written: Vec<u8> }
 
 fn tried(input: Input) -> Tried {
     let refusal = refusal(&input);

@@ -231,20 +231,13 @@ static void reaches(const struct shorthand *s, size_t records)
 static void steps(void)
 {
     enum { STEPS = (MOST_RECORDS - 1) / 2 };
-    struct formula wanted = {.n = 0}, brief = {.n = 0}, other_order = {.n = 0};
-    for (int i = 0; i < STEPS; i++)
-        step(&wanted);
-    size_t g = yes(&wanted);
-    for (size_t on = STEPS; on-- > 0;)
-        g = diamond(&wanted, on, g);
-
-    g = add_times(&brief, PASTUREQUILL_NEXT, STEPS, yes(&brief));
+    struct formula wanted = nested(STEPS, "<step>", "true", ""), brief = nested(STEPS, "next ", "true", "");
+    struct formula longer = nested(STEPS + 1, "next ", "true", ""), other_order = {.n = 0};
     expect_core("127 nexts: 255 records", bytes_of(&brief), 0, bytes_of(&wanted));
-    add(&brief, PASTUREQUILL_NEXT, g, 0);
-    expect_refusal("128 nexts: 257 records", bytes_of(&brief), 0, PASTUREQUILL_TOO_LONG);
+    expect_refusal("128 nexts: 257 records", bytes_of(&longer), 0, PASTUREQUILL_TOO_LONG);
 
     /* The same from core records, each step between two diamonds. */
-    g = yes(&other_order);
+    size_t g = yes(&other_order);
     while (left(&other_order) > 0)
         g = diamond(&other_order, step(&other_order), g);
     expect_core("255 core records in another order", bytes_of(&other_order), 0, bytes_of(&wanted));
@@ -253,18 +246,11 @@ static void steps(void)
 /* Not 84 times, of p next: three records each, the tests inside each other. */
 static void nots(void)
 {
-    struct formula wanted = {.n = 0}, brief = {.n = 0};
-    size_t on = step(&wanted), g = diamond(&wanted, on, atom(&wanted, 0));
-    while (left(&wanted) > 0)
-        g = not_so(&wanted, g);
-    size_t next = add(&brief, PASTUREQUILL_NEXT, atom(&brief, 0), 0);
-    g = add_times(&brief, PASTUREQUILL_NOT, 84, next);
+    struct formula wanted = nested(84, "[(", "<step>p", ")?]false"), brief = nested(84, "not ", "next p", "");
+    struct formula eventually = nested(84, "not ", "eventually p", ""), more = nested(85, "not ", "next p", "");
     expect_core("84 nots of next: 255 records", bytes_of(&brief), 1, bytes_of(&wanted));
-    set_kind(&brief, next, PASTUREQUILL_EVENTUALLY);
-    expect_refusal("84 nots of eventually: 256 records", bytes_of(&brief), 1, PASTUREQUILL_TOO_LONG);
-    set_kind(&brief, next, PASTUREQUILL_NEXT);
-    add(&brief, PASTUREQUILL_NOT, g, 0);
-    expect_refusal("85 nots of next: 258 records", bytes_of(&brief), 1, PASTUREQUILL_TOO_LONG);
+    expect_refusal("84 nots of eventually: 256 records", bytes_of(&eventually), 1, PASTUREQUILL_TOO_LONG);
+    expect_refusal("85 nots of next: 258 records", bytes_of(&more), 1, PASTUREQUILL_TOO_LONG);
 }
 
 /* Untils to the right, 42 of them, over atoms in turn, under a next: six records each and a last q, 253, and two. */
@@ -306,10 +292,7 @@ static void most_records_in(void)
     expect_refusal("255 records, one of them a next: 256 out", bytes_of(&longer), 0, PASTUREQUILL_TOO_LONG);
 
     /* No 255 records have more: each or has five of its own and one argument more, each final has three. */
-    struct formula ors = {.n = 0};
-    size_t g = add(&ors, PASTUREQUILL_FINAL, 0, 0);
-    while (left(&ors) > 0)
-        g = add(&ors, PASTUREQUILL_OR, g, add(&ors, PASTUREQUILL_FINAL, 0, 0));
+    struct formula ors = nested(127, "(", "final", ") or final");
     expect_refusal("127 ors of finals: 1,019 out", bytes_of(&ors), 0, PASTUREQUILL_TOO_LONG);
     expect_refusal("127 ors of finals, 33 atoms", bytes_of(&ors), 33, PASTUREQUILL_WRONG_SIZE);
 }
@@ -338,8 +321,7 @@ static void far_too_long(void)
 
 static void no_addresses(void)
 {
-    struct formula final = written("", "final"), long_one = {.n = 0};
-    add_times(&long_one, PASTUREQUILL_NEXT, 128, yes(&long_one));
+    struct formula final = written("", "final"), long_one = nested(128, "next ", "true", "");
     expect_no_address("no address for no records", (struct bytes)NONE, 0, PASTUREQUILL_WRONG_LENGTH);
     expect_no_address("no address for no records, and 33 atoms", (struct bytes)NONE, 33, PASTUREQUILL_WRONG_LENGTH);
     expect_no_address("no address for no room", bytes_of(&final), 0, PASTUREQUILL_NO_ROOM);

@@ -1,6 +1,5 @@
-/* pasturequill_judge over tables of cases, over every rule of a few literals, and around the greatest sizes. But for
- * the rules of a few literals, each input is handed over at both edges of memory that may not be touched, and in memory
- * that may only be read. */
+/* pasturequill_judge over a table of cases, over every rule of a few literals, and around the greatest sizes. But for
+ * those rules, each input is at both edges of memory that may not be touched, and in memory that may only be read. */
 #define TEST_NAME "judge"
 
 #include "guarded.h"
@@ -102,8 +101,7 @@ static const struct judged {
     {"not 1 is 0 in a body", ALL_HOLD, 1, 1, RULE(EVERY, NOT + P, NO), BYTES(1)},
     {"not 2 is 0", FAILS(0, 0), 1, 1, RULE(EVERY, YES, NOT + P), BYTES(2)},
     {"not 0 in a body is due", FAILS(0, 0), 2, 1, RULE(EVERY, NOT + P, Q), BYTES(0, 1)},
-    {"x, a or not c, all assumed, is less than due", FAILS(0, 0), 3, 1, WORDS(EVERY, YES, YES, P, Q, NOT + R),
-     BYTES(1, 1, 1)},
+    {"x, a or not c, all assumed: too little", FAILS(0, 0), 3, 1, WORDS(EVERY, YES, YES, P, Q, NOT + R), BYTES(1, 1, 1)},
     {"x, a or not c, c false", ALL_HOLD, 3, 1, WORDS(EVERY, YES, YES, P, Q, NOT + R), BYTES(1, 1, 0)},
 
     /* every word is looked at, also those that a rule need not use */
@@ -134,8 +132,7 @@ static const struct judged {
 
     /* the previous instant */
     {"what p was, q is", ALL_HOLD, 2, 3, RULE(LATER, PREVIOUS + P, Q), BYTES(1, 0, 2, 1, 2, 2)},
-    {"what p was, q is not at the last instant", FAILS(0, 2), 2, 3, RULE(LATER, PREVIOUS + P, Q),
-     BYTES(1, 0, 2, 1, 2, 1)},
+    {"what p was, q is not at last", FAILS(0, 2), 2, 3, RULE(LATER, PREVIOUS + P, Q), BYTES(1, 0, 2, 1, 2, 1)},
     {"what q is, p was", FAILS(0, 1), 2, 3, RULE(LATER, Q, PREVIOUS + P), BYTES(0, 0, 2, 1, 2, 2)},
     {"what p is at the last instant was never", ALL_HOLD, 1, 2, RULE(LATER, PREVIOUS + P, NO), BYTES(0, 2)},
     {"p was not", ALL_HOLD, 1, 2, RULE(LATER, YES, NOT + PREVIOUS + P), BYTES(0, 2)},
@@ -163,8 +160,7 @@ static const struct judged {
     {"p next, as it is", ALL_HOLD, 35, 2, NEXT, NEXT_ROWS(0, 2, 0, 2, 2, 0, 2, 0)},
     {"p next, a step past the end", FAILS(2, 1), 35, 2, NEXT, NEXT_ROWS(0, 2, 0, 2, 2, 2, 2, 2)},
     {"p next, a label too small", FAILS(6, 0), 35, 2, NEXT, NEXT_ROWS(0, 2, 0, 1, 2, 0, 2, 0)},
-    {"p next, p assumed: the labels are right, the whole is not", FAILS(7, 0), 35, 2, NEXT,
-     NEXT_ROWS(0, 1, 0, 1, 1, 0, 1, 0)},
+    {"p next, p assumed: the labels are right", FAILS(7, 0), 35, 2, NEXT, NEXT_ROWS(0, 1, 0, 1, 1, 0, 1, 0)},
 
     /* ---- refused */
     /* width, instants, cells */
@@ -179,8 +175,7 @@ static const struct judged {
     {"2^63 columns at 2 instants, a product of 0 in 64 bits", REFUSED(WRONG_SIZE), TWO_TO(63), 2, HOLDING, NONE},
     {"2^63 instants of 2 columns, a product of 0 in 64 bits", REFUSED(WRONG_SIZE), 2, TWO_TO(63), HOLDING, NONE},
     {"2^32 columns at 2^32 instants", REFUSED(WRONG_SIZE), TWO_TO(32), TWO_TO(32), HOLDING, NONE},
-    {"2^63 + 1 instants of 2 columns, a product of 2 in 64 bits", REFUSED(WRONG_SIZE), 2, TWO_TO(63) + 1, HOLDING,
-     BYTES(0, 0)},
+    {"2^63 + 1 instants of 2 columns, 2 in 64 bits", REFUSED(WRONG_SIZE), 2, TWO_TO(63) + 1, HOLDING, BYTES(0, 0)},
     {"2^32 + 1 columns, whose low half is 1", REFUSED(WRONG_SIZE), TWO_TO(32) + 1, 1, HOLDING, BYTES(0)},
     {"2^32 + 1 instants, whose low half is 1", REFUSED(WRONG_SIZE), 1, TWO_TO(32) + 1, HOLDING, BYTES(0)},
     {"2^64 - 1 of both, a product of 1 in 64 bits", REFUSED(WRONG_SIZE), UINT64_MAX, UINT64_MAX, HOLDING, BYTES(0)},
@@ -218,8 +213,7 @@ static const struct judged {
     {"previous at every instant", REFUSED(WRONG_RULES), 1, 2, RULE(EVERY, PREVIOUS + P, NO), BYTES(0, 0)},
     {"previous at the first instant", REFUSED(WRONG_RULES), 1, 2, RULE(FIRST, PREVIOUS + P, NO), BYTES(0, 0)},
     {"previous at the last instant", REFUSED(WRONG_RULES), 1, 2, RULE(LAST, PREVIOUS + P, NO), BYTES(0, 0)},
-    {"previous, negated, at the last instant", REFUSED(WRONG_RULES), 1, 2, RULE(LAST, NOT + PREVIOUS + P, NO),
-     BYTES(0, 0)},
+    {"previous, negated, at the last", REFUSED(WRONG_RULES), 1, 2, RULE(LAST, NOT + PREVIOUS + P, NO), BYTES(0, 0)},
 
     /* the cells */
     {"a cell of 3", REFUSED(WRONG_CELL), 1, 1, HOLDING, BYTES(3)},

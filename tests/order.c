@@ -13,19 +13,14 @@ enum ground {
     LENGTH, SIZES, FIRST_RECORD, SECOND_RECORD, LAST_RECORD, TREE, TURNS, STANDS, TOO_LONG, RULES, CELLS, ROOM, GROUNDS
 };
 
+/* For a record at fault this is the first of five refusals. */
 static const int refusals[GROUNDS] = {
-    [LENGTH] = PASTUREQUILL_WRONG_LENGTH,
-    [SIZES] = PASTUREQUILL_WRONG_SIZE,
-    [FIRST_RECORD] = PASTUREQUILL_UNKNOWN_KIND, /* and the four refusals after it */
-    [SECOND_RECORD] = PASTUREQUILL_UNKNOWN_KIND,
-    [LAST_RECORD] = PASTUREQUILL_WRONG_SORT,
-    [TREE] = PASTUREQUILL_NOT_A_TREE,
-    [TURNS] = PASTUREQUILL_STAR_TURNS,
-    [STANDS] = PASTUREQUILL_STAR_STANDS,
-    [TOO_LONG] = PASTUREQUILL_TOO_LONG,
-    [RULES] = PASTUREQUILL_WRONG_RULES,
-    [CELLS] = PASTUREQUILL_WRONG_CELL,
-    [ROOM] = PASTUREQUILL_NO_ROOM,
+    [LENGTH] = PASTUREQUILL_WRONG_LENGTH,        [SIZES] = PASTUREQUILL_WRONG_SIZE,
+    [FIRST_RECORD] = PASTUREQUILL_UNKNOWN_KIND,  [SECOND_RECORD] = PASTUREQUILL_UNKNOWN_KIND,
+    [LAST_RECORD] = PASTUREQUILL_WRONG_SORT,     [TREE] = PASTUREQUILL_NOT_A_TREE,
+    [TURNS] = PASTUREQUILL_STAR_TURNS,           [STANDS] = PASTUREQUILL_STAR_STANDS,
+    [TOO_LONG] = PASTUREQUILL_TOO_LONG,          [RULES] = PASTUREQUILL_WRONG_RULES,
+    [CELLS] = PASTUREQUILL_WRONG_CELL,           [ROOM] = PASTUREQUILL_NO_ROOM,
 };
 
 /* The ways to be at fault by a ground, counted from 1; most grounds have one. */
@@ -84,7 +79,8 @@ static void expect_written(const struct attempt *a, const void *room, size_t siz
 }
 
 /* ---- records */
-enum { ATOMS = 2, MOST_ATOMS = PASTUREQUILL_MOST_ATOMS, MOST_INSTANTS = PASTUREQUILL_MOST_INSTANTS };
+enum { ATOMS = 2, MOST_ATOMS = PASTUREQUILL_MOST_ATOMS };
+enum { MOST_WIDTH = PASTUREQUILL_MOST_COLUMNS, MOST_INSTANTS = PASTUREQUILL_MOST_INSTANTS };
 
 /* Makes record r be at fault, where record 0 is a formula. */
 static void put_fault(struct formula *f, size_t r, int way)
@@ -144,26 +140,21 @@ static struct bytes handed(const struct formula *f, const struct attempt *a)
 static uint64_t atoms(const struct attempt *a) { return a->faults[SIZES] ? MOST_ATOMS + 1 : ATOMS; }
 
 /* ---- traces */
-struct sizes {
-    uint64_t width, instants;
-    size_t cells;
-};
+struct sizes { uint64_t width, instants; size_t cells; };
 
 static struct sizes sizes_by(int way, uint64_t width, uint64_t most, uint64_t instants)
 {
-    struct sizes s = {.width = way == TOO_WIDE ? most + 1 : width, .instants = instants};
-    if (way == NO_INSTANTS)
-        s.instants = 0;
-    if (way == TOO_MANY_INSTANTS)
-        s.instants = MOST_INSTANTS + 1;
-    s.cells = (size_t)(s.width * s.instants) + (way == CELL_MORE) - (way == CELL_MISSING);
-    return s;
+    if (way == TOO_WIDE)
+        width = most + 1;
+    if (way == NO_INSTANTS || way == TOO_MANY_INSTANTS)
+        instants = way == NO_INSTANTS ? 0 : MOST_INSTANTS + 1;
+    return (struct sizes){width, instants, (size_t)(width * instants) + (way == CELL_MORE) - (way == CELL_MISSING)};
 }
 
 /* Cells that are 2, the last of them perhaps wrong. */
 static const uint8_t *cells_by(const struct attempt *a, size_t size)
 {
-    static uint8_t cells[(PASTUREQUILL_MOST_COLUMNS + 1) * (MOST_INSTANTS + 1)];
+    static uint8_t cells[(MOST_WIDTH + 1) * (MOST_INSTANTS + 1)];
     memset(cells, 2, sizeof cells);
     if (a->faults[CELLS] && size != 0)
         cells[size - 1] = 3;
@@ -214,8 +205,7 @@ static void translate(const struct attempt *a)
     expect_written(a, rules, sizeof *rules * room, sizeof *rules * needed);
 }
 
-/* As many rules, columns and instants as there may be. All rules hold, or the first one fails; the last one may be at
- * fault. */
+/* As many rules as there may be. All of them hold, or the first one fails; the last one may be at fault. */
 static struct words rules_by(const struct attempt *a, int fails)
 {
     static uint16_t words[MOST_WORDS + RULE_SIZE];
@@ -227,7 +217,7 @@ static struct words rules_by(const struct attempt *a, int fails)
     switch (way) {
     case NO_PLACE: last[0] = LAST + 1; break;
     /* One symbol further is a column where there is one more, so that a width too great is a fault by itself. */
-    case SYMBOL_PAST: last[5] = (uint16_t)(COLUMN + PASTUREQUILL_MOST_COLUMNS + too_wide); break;
+    case SYMBOL_PAST: last[5] = (uint16_t)(COLUMN + MOST_WIDTH + too_wide); break;
     case PREVIOUS_ELSEWHERE: last[5] = PREVIOUS + COLUMN; break;
     case PREVIOUS_CONSTANT: last[5] = NOT + PREVIOUS + NO; break;
     }
@@ -238,12 +228,11 @@ static struct words rules_by(const struct attempt *a, int fails)
 
 static void judge(const struct attempt *a)
 {
-    struct sizes s =
-        sizes_by(a->faults[SIZES], PASTUREQUILL_MOST_COLUMNS, PASTUREQUILL_MOST_COLUMNS, MOST_INSTANTS);
+    struct sizes s = sizes_by(a->faults[SIZES], MOST_WIDTH, MOST_WIDTH, MOST_INSTANTS);
     for (int fails = 0; fails <= 1; fails++) {
         struct words rules = rules_by(a, fails);
-        pasturequill_judged got =
-            pasturequill_judge(rules.at, rules.size, s.width, s.instants, cells_by(a, s.cells), s.cells);
+        const uint8_t *cells = cells_by(a, s.cells);
+        pasturequill_judged got = pasturequill_judge(rules.at, rules.size, s.width, s.instants, cells, s.cells);
         expect_answer(a, got.refusal, got.holds, !fails);
         expect(a, "rule", got.rule, 0);
         expect(a, "instant", got.instant, 0);

@@ -1,6 +1,5 @@
-/* pasturequill_translate over tables of cases and over the longest formulas. Each input is handed over at both edges of
- * memory that may not be touched, the records in memory that may only be read, and the rules with and without room to
- * spare. */
+/* pasturequill_translate over tables of cases and over the longest formulas. Each input is at both edges of memory that
+ * may not be touched, the records in memory that may only be read, and the rules with and without room to spare. */
 #define TEST_NAME "translate"
 #define SERVICE pasturequill_translate
 #define ELEMENT uint16_t

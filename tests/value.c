@@ -1,6 +1,5 @@
-/* pasturequill_value over tables of cases and around the greatest sizes. Each input is handed over at both edges of
- * memory that may not be touched, the records and cells in memory that may only be read, and the table with and without
- * room to spare. */
+/* pasturequill_value over tables of cases and around the greatest sizes. Each input is at both edges of memory that may
+ * not be touched, records and cells in memory that may only be read, and the table with and without room to spare. */
 #define TEST_NAME "value"
 
 #include "faults.h"
@@ -244,8 +243,7 @@ static struct formula stars(size_t records)
     return f;
 }
 
-/* O: as many records as there may be are taken, one more is not. p is assumed at the last instant, so it is assumed
- * from all. */
+/* O: as many records as there may be are taken, one more is not. p is assumed at the last instant, so from all. */
 static void most_records(void)
 {
     static const uint8_t cells[MOST_INSTANTS] = {[MOST_INSTANTS - 1] = 1};
@@ -268,10 +266,7 @@ static void most_records(void)
  * where p comes next, assumed or proved, and else 0. */
 static void deepest_tests(void)
 {
-    struct formula f = {.n = 0};
-    size_t on = step(&f), g = diamond(&f, on, atom(&f, 0));
-    while (left(&f) > 0)
-        g = not_so(&f, g);
+    struct formula f = nested(84, "[(", "<step>p", ")?]false");
     uint8_t cells[MOST_INSTANTS], values[MOST_INSTANTS];
     for (size_t k = 0; k < MOST_INSTANTS; k++)
         cells[k] = k % 3;

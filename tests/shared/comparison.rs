@@ -27,13 +27,7 @@ impl Seen {
     pub fn times(&self, name: &str) -> usize { self.0.get(name).copied().unwrap_or(0) }
 }
 
-pub struct Comparison {
-    name: &'static str,
-    pub seen: Seen,
-    passed: usize,
-    failed: usize,
-    missing: Vec<String>,
-}
+pub struct Comparison { name: &'static str, pub seen: Seen, passed: usize, failed: usize, missing: Vec<String> }
 
 impl Comparison {
     /// Compares so many inputs, and prints the first that differ: `drawn` is the input of a number with all that is

@@ -4,10 +4,7 @@ use super::*;
 
 /// What is handed to the library; `room` counts bytes of records or words of rules.
 #[derive(Debug)]
-pub struct Input {
-    pub formula: Formula,
-    pub room: usize,
-}
+pub struct Input { pub formula: Formula, pub room: usize }
 
 /// Records that no formula was drawn for, and any room.
 pub fn scattered_input(random: &mut Random, shorthands: bool) -> Input {

@@ -36,8 +36,7 @@ struct Way { only: Option<u8>, moves: bool }
 /// A record that has no number yet; its children are other nodes.
 struct Node { kind: u8, atom: u8, children: Vec<usize> }
 
-/// Where tame is asked for, all stars are such that translation takes them. Of a hundred formulas this many are
-/// shorthands.
+/// A tame one grows only stars that translation takes. Of a hundred formulas `shorthands` are shorthands.
 struct Grower<'a> {
     random: &'a mut Random,
     habit: Habit,
@@ -152,9 +151,8 @@ impl Grower<'_> {
     }
 }
 
-/// The nodes as records in a random legal order. Places are given out from the last: the root's first, and then always
-/// that of a node whose parent has its place. Taking the newest such node gives postorder, the oldest gives level after
-/// level, any one gives any order.
+/// The nodes as records in a random legal order. Places are given out from the last: the root's first, then that of a
+/// node whose parent has its place. The newest such node gives postorder, the oldest level after level, any one any.
 fn laid_out(random: &mut Random, nodes: &[Node], root: usize) -> Vec<u8> {
     let order = random.below(4);
     let mut place = vec![0; nodes.len()];

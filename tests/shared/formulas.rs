@@ -30,11 +30,7 @@ pub fn record(kind: u8, a: usize, b: usize) -> Record {
 
 /// Records, of a formula or not, how many atoms there are, and whether they are for a service that takes shorthands.
 #[derive(Debug)]
-pub struct Formula {
-    pub records: Vec<u8>,
-    pub atoms: u64,
-    pub shorthands: bool,
-}
+pub struct Formula { pub records: Vec<u8>, pub atoms: u64, pub shorthands: bool }
 
 impl Formula {
     pub fn count(&self) -> usize { self.records.len() / RECORD_SIZE }

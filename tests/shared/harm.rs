@@ -35,8 +35,7 @@ fn redirect(random: &mut Random, formula: &mut Formula, same: bool) {
     }
 }
 
-/// Gives a record one child more, which has its place already: a star becomes a path of two parts, a step becomes a
-/// star.
+/// Gives a record one child more, which has its place already: a star gets a second part, a step becomes a star.
 fn name_again(random: &mut Random, formula: &mut Formula) {
     let Some(r) = some_record(random, formula, |r| matches!(formula.kind(r), STAR | STEP | BACK)) else { return };
     let paths: Vec<usize> = (0..r).filter(|&q| is_path(formula, q)).collect();
@@ -103,8 +102,7 @@ pub fn damage_records(random: &mut Random, formula: &mut Formula) {
     }
 }
 
-/// Records that no formula was drawn for: core kinds and one past them, shorthands too if they are asked for, and small
-/// fields; in bytes.
+/// Records that no formula was drawn for: core kinds, one past them, shorthands if they are asked for; small fields.
 pub fn scattered_records(random: &mut Random, shorthands: bool) -> Vec<u8> {
     let kinds: Vec<u8> =
         if shorthands { (FALSE..=STAR + 1).chain(NOT..=SINCE).collect() } else { (FALSE..=STAR + 1).collect() };

@@ -1,8 +1,5 @@
-//! The library, which is a process of its own (server.c): it is made for x86-64, and a comparison for the machine that
-//! it runs on.
-//!
-//! Every slice of a call ends at memory that may not be touched and has known bytes in front, so that no write beside
-//! it goes unseen.
+//! The library, which is a process of its own (server.c): it is for x86-64, and a comparison for any machine. Every
+//! slice of a call ends at memory that may not be touched and has known bytes in front, so that no write is unseen.
 
 use super::*;
 use std::env::args;
@@ -36,11 +33,7 @@ impl<'a> Lent<'a> {
     }
 }
 
-pub struct Library {
-    process: Child,
-    requests: ChildStdin,
-    answers: BufReader<ChildStdout>,
-}
+pub struct Library { process: Child, requests: ChildStdin, answers: BufReader<ChildStdout> }
 
 impl Library {
     /// Starts the process. Its command is the arguments of this program.
@@ -68,8 +61,8 @@ impl Library {
     fn exchange(&mut self, service: Service, numbers: [u64; 2], slices: &[&[u8]]) -> io::Result<(Outcome, u64)> {
         let mut words = vec![service as u64, numbers[0], numbers[1]];
         words.extend((0..SLICES).map(|i| slices.get(i).map_or(0, |slice| slice.len() as u64)));
-        let request: Vec<u8> = words.into_iter().flat_map(u64::to_le_bytes).chain(slices.concat()).collect();
-        self.requests.write_all(&request)?;
+        let head: Vec<u8> = words.into_iter().flat_map(u64::to_le_bytes).collect();
+        self.requests.write_all(&[head, slices.concat()].concat())?;
 
         let head = self.bytes((RESULTS + 1) * 8)?;
         let mut results: Vec<u64> =

@@ -3,10 +3,7 @@
 use super::*;
 
 /// A formula whose records are a tree, with each record's parent.
-pub struct Tree<'a> {
-    pub formula: &'a Formula,
-    parents: Vec<Option<usize>>,
-}
+pub struct Tree<'a> { pub formula: &'a Formula, parents: Vec<Option<usize>> }
 
 impl Tree<'_> {
     pub fn new(formula: &Formula) -> Tree<'_> {
