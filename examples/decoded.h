@@ -75,10 +75,8 @@ static inline void print_literals(const uint16_t *words, size_t n, uint16_t unus
 static inline void print_rule(const uint16_t *rules, size_t i, struct names names)
 {
     static const char *const places[] = {
-        [PASTUREQUILL_AT_EVERY] = "every instant",
-        [PASTUREQUILL_AT_FIRST] = "first instant",
-        [PASTUREQUILL_AT_LATER] = "later instants",
-        [PASTUREQUILL_AT_LAST] = "last instant",
+        [PASTUREQUILL_AT_EVERY] = "every instant",  [PASTUREQUILL_AT_FIRST] = "first instant",
+        [PASTUREQUILL_AT_LATER] = "later instants", [PASTUREQUILL_AT_LAST] = "last instant",
     };
     const uint16_t *words = rules + i * PASTUREQUILL_RULE_SIZE;
     int width = 0;

@@ -66,10 +66,12 @@ static inline size_t add_times(struct formula *f, uint8_t kind, size_t times, si
 }
 
 /* A formula of so many records, three or more: a step under stars, what they lead to, and a diamond. */
-static inline size_t add_stars(struct formula *f, size_t records, uint8_t end)
+static inline struct formula stars(size_t records, uint8_t end)
 {
-    size_t path = add_times(f, PASTUREQUILL_STAR, records - 3, step(f));
-    return diamond(f, path, add(f, end, 0, 0));
+    struct formula f = {.n = 0};
+    size_t path = add_times(&f, PASTUREQUILL_STAR, records - 3, step(&f));
+    diamond(&f, path, add(&f, end, 0, 0));
+    return f;
 }
 
 /* ---- refusals */

@@ -32,17 +32,15 @@ static const struct records_case taken[] = {
 /* A formula of stars, of a given number of records, and further bytes. */
 static void expect_number(const char *reason, size_t records, size_t more, int refusal)
 {
-    struct formula f = {.n = 0};
-    add_stars(&f, records, PASTUREQUILL_TRUE);
+    struct formula f = stars(records, PASTUREQUILL_TRUE);
     expect(reason, (struct bytes){f.records, size_of(&f) + more}, 0, refusal);
 }
 
 /* A slice of no bytes may have no address. */
 static void no_address(void)
 {
-    int got = pasturequill_check(NULL, 0, 0);
-    count(got == PASTUREQUILL_WRONG_LENGTH, "no address for no bytes", "refusal", (uint64_t)got,
-          PASTUREQUILL_WRONG_LENGTH);
+    int got = pasturequill_check(NULL, 0, 0), due = PASTUREQUILL_WRONG_LENGTH;
+    count(got == due, "no address for no bytes", "refusal", (uint64_t)got, (uint64_t)due);
 }
 
 int main(void)

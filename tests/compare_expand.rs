@@ -144,13 +144,9 @@ fn formula_at_limit(random: &mut Random) -> Formula {
 
 /// Room that is exact or longer for a formula that is a tree; any room where it does not come to that.
 fn input_of(random: &mut Random, formula: Formula) -> Input {
-    let records = expansion(&formula).len();
-    let room = if records > MOST_RECORDS {
-        let needed = RECORD_SIZE * records;
-        random.pick(&[0, MOST_RECORD_BYTES - 1, MOST_RECORD_BYTES, needed - 1, needed, 7000])
-    } else {
-        RECORD_SIZE * records + spare(random)
-    };
+    let needed = RECORD_SIZE * expansion(&formula).len();
+    let any = [0, MOST_RECORD_BYTES - 1, MOST_RECORD_BYTES, needed - 1, needed, 7000];
+    let room = if needed > MOST_RECORD_BYTES { random.pick(&any) } else { needed + spare(random) };
     Input { formula, room }
 }
 

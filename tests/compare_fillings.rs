@@ -12,15 +12,9 @@ use shared::*;
 /// The records in an order in which a search soon knows what each rule speaks of: first what a path goes on with.
 fn search_order(formula: &Formula, r: usize, order: &mut Vec<usize>) {
     let star = formula.kind(r) == STAR;
-    if star {
-        order.push(r);
-    }
-    for &child in children(formula, r).iter().rev() {
-        search_order(formula, child, order);
-    }
-    if !star {
-        order.push(r);
-    }
+    order.extend(star.then_some(r));
+    children(formula, r).iter().rev().for_each(|&child| search_order(formula, child, order));
+    order.extend((!star).then_some(r));
 }
 
 /// A search over all values of the labels at all instants, given the atoms' cells.

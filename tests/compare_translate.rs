@@ -184,11 +184,8 @@ impl Tried {
     fn accepted(&self) -> bool { self.refusal == Accepted }
     /// Whether the formula is accepted and has a star that is such.
     fn accepted_with(&self, wanted: impl Fn(&Tree, usize) -> bool) -> bool {
-        let stars = if self.accepted() { self.input.formula.of_kind(STAR) } else { vec![] };
-        !stars.is_empty() && {
-            let tree = Tree::new(&self.input.formula);
-            stars.iter().any(|&star| wanted(&tree, star))
-        }
+        let formula = &self.input.formula;
+        self.accepted() && formula.of_kind(STAR).iter().any(|&star| wanted(&Tree::new(formula), star))
     }
     /// Whether this is all that is wrong with the first star at fault.
     fn first(&self, faults: &[Refusal]) -> bool { self.faults.first().is_some_and(|first| first == faults) }

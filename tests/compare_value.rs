@@ -108,11 +108,7 @@ fn satisfied(input: &Input) -> (Satisfied, Satisfied) {
 /// Theorem 1: 2 where the given trace satisfies, and with it the total one; 1 where only the total one does; else 0.
 fn three_valued(given: bool, total: bool) -> u8 {
     assert!(total || !given, "satisfied in the given trace and not in the total one");
-    match (given, total) {
-        (true, _) => 2,
-        (false, true) => 1,
-        (false, false) => 0,
-    }
+    if given { 2 } else { total as u8 }
 }
 
 // ---- what is refused (Specification, Records and Refusals)
@@ -255,9 +251,7 @@ fn count(seen: &mut Seen, Tried { input, refusal, value, written }: &Tried) {
     seen.add(format!("{} records in all", formula.count()));
     seen.add(format!("{instants} instants"));
     seen.add(format!("{} atoms", formula.atoms));
-    for r in 0..formula.count() {
-        seen.add(format!("kind {}", formula.kind(r)));
-    }
+    (0..formula.count()).for_each(|r| seen.add(format!("kind {}", formula.kind(r))));
     let formulas = (0..formula.count()).filter(|&r| sort(formula, r) == Sort::Formula);
     let values: Vec<u8> = formulas.flat_map(|r| written[r * instants..(r + 1) * instants].to_vec()).collect();
     for value in 0..3 {

@@ -1,5 +1,5 @@
 /* Calls of a service that writes and counts. Whoever includes this says which: SERVICE is its function, ELEMENT what
- * its room is made of, and EACH how many of these a record or a rule has. */
+ * its room is made of, EACH how many of these a record or a rule has, and ROOMS what room each refusal is tried in. */
 #ifndef COUNTED_H
 #define COUNTED_H
 
@@ -39,6 +39,14 @@ static void expect_output(const char *reason, struct bytes records, uint64_t ato
         expect(reason, records, atoms, enough[i], PASTUREQUILL_ACCEPTED, due);
     for (size_t i = 0; i < sizeof less / sizeof *less; i++)
         expect(reason, records, atoms, less[i], PASTUREQUILL_NO_ROOM, due);
+}
+
+/* A refused formula, whatever the room. */
+static void expect_refusal(const char *reason, struct bytes records, uint64_t atoms, int refusal)
+{
+    static const size_t rooms[] = {ROOMS};
+    for (const size_t *room = rooms; room < END(rooms); room++)
+        expect(reason, records, atoms, *room, refusal, (struct output)NONE);
 }
 
 /* A slice of no elements may have no address. */

@@ -5,6 +5,7 @@
 #define SERVICE pasturequill_expand
 #define ELEMENT uint8_t
 #define EACH PASTUREQUILL_RECORD_SIZE
+#define ROOMS 0, PASTUREQUILL_MOST_RECORD_BYTES, 4 * PASTUREQUILL_MOST_RECORD_BYTES
 
 #include "counted.h"
 
@@ -26,14 +27,6 @@ static void expect_core(const char *reason, struct bytes records, uint64_t atoms
 {
     expect_output(reason, records, atoms, (struct output){core.at, core.size});
     expect_settled(reason, records, atoms);
-}
-
-/* A refused formula, whatever the room. */
-static void expect_refusal(const char *reason, struct bytes records, uint64_t atoms, int refusal)
-{
-    static const size_t rooms[] = {0, MOST_BYTES, 4 * MOST_BYTES};
-    for (const size_t *room = rooms; room < END(rooms); room++)
-        expect(reason, records, atoms, *room, refusal, (struct output)NONE);
 }
 
 /* ---- byte for byte */
@@ -212,14 +205,14 @@ static void faults_of(const struct shorthand *s)
 static void reaches(const struct shorthand *s, size_t records)
 {
     const char *reason = reason_with("%s: %zu records", s->name, records);
-    struct formula f = {.n = 0};
-    if (s->arguments == 0) {
-        size_t g = add_stars(&f, records - s->own - 2, PASTUREQUILL_TRUE);
+    /* One of no arguments is under an and, which has two records. */
+    size_t others = s->arguments == 0 ? 2 : s->arguments - 1;
+    struct formula f = stars(records - s->own - others, PASTUREQUILL_TRUE);
+    size_t g = f.n - 1;
+    if (s->arguments == 0)
         add(&f, PASTUREQUILL_AND, g, add(&f, s->kind, 0, 0));
-    } else {
-        size_t two = s->arguments == 2, g = add_stars(&f, records - s->own - two, PASTUREQUILL_TRUE);
-        add(&f, s->kind, g, two ? yes(&f) : 0);
-    }
+    else
+        add(&f, s->kind, g, s->arguments == 2 ? yes(&f) : 0);
     if (records <= MOST_RECORDS)
         expect_core(reason, bytes_of(&f), 0, (struct bytes){NULL, RECORD_SIZE * records});
     else
@@ -278,16 +271,16 @@ static void untils(void)
 /* A next over stars, of a given number of core records. */
 static struct formula next_of_stars(size_t records)
 {
-    struct formula f = {.n = 0};
-    add(&f, PASTUREQUILL_NEXT, add_stars(&f, records, PASTUREQUILL_TRUE), 0);
+    struct formula f = stars(records, PASTUREQUILL_TRUE);
+    add(&f, PASTUREQUILL_NEXT, f.n - 1, 0);
     return f;
 }
 
 static void most_records_in(void)
 {
-    struct formula stars = {.n = 0}, fits = next_of_stars(MOST_RECORDS - 2), longer = next_of_stars(MOST_RECORDS - 1);
-    add_stars(&stars, MOST_RECORDS, PASTUREQUILL_TRUE);
-    expect_core("255 core records", bytes_of(&stars), 0, bytes_of(&stars));
+    struct formula most = stars(MOST_RECORDS, PASTUREQUILL_TRUE);
+    struct formula fits = next_of_stars(MOST_RECORDS - 2), longer = next_of_stars(MOST_RECORDS - 1);
+    expect_core("255 core records", bytes_of(&most), 0, bytes_of(&most));
     expect_core("254 records, one of them a next", bytes_of(&fits), 0, (struct bytes){NULL, MOST_BYTES});
     expect_refusal("255 records, one of them a next: 256 out", bytes_of(&longer), 0, PASTUREQUILL_TOO_LONG);
 

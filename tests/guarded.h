@@ -22,10 +22,11 @@ static inline void make_fresh(void *room, size_t size)
 
 enum guarded_edge { GUARDED_AT_END, GUARDED_AT_START };
 
-static inline void guarded_must(int fine)
+/* Ends the program where something is not as it must be. */
+static inline void must(int fine, const char *what)
 {
     if (!fine) {
-        perror("guarded");
+        fprintf(stderr, "%s\n", what);
         exit(2);
     }
 }
@@ -37,17 +38,14 @@ static inline uint8_t *guarded_pages(size_t size)
 {
     size_t page = guarded_page();
     uint8_t *base = mmap(NULL, size + 2 * page, PROT_NONE, MAP_PRIVATE | MAP_ANONYMOUS, -1, 0);
-    guarded_must(base != MAP_FAILED && mprotect(base + page, size, PROT_READ | PROT_WRITE) == 0);
+    must(base != MAP_FAILED && mprotect(base + page, size, PROT_READ | PROT_WRITE) == 0, "there are no pages");
     return base + page;
 }
 
 /* The copies that there are, up to as many as one call takes. */
 enum { MOST_GUARDED = 3 };
 
-static struct {
-    uint8_t *start;
-    size_t size;
-} guarded_copies[MOST_GUARDED];
+static struct { uint8_t *start; size_t size; } guarded_copies[MOST_GUARDED];
 static size_t guarded_count;
 
 /* A copy of `size` bytes in pages of its own with this protection, untouchable pages around, until the next release. */
@@ -56,12 +54,12 @@ static inline uint8_t *guarded_copy(const uint8_t *bytes, size_t size, enum guar
     size_t inner = (size / guarded_page() + 1) * guarded_page();
     uint8_t *start = guarded_pages(inner);
     uint8_t *at = edge == GUARDED_AT_END ? start + inner - size : start;
-    guarded_must(guarded_count < MOST_GUARDED);
+    must(guarded_count < MOST_GUARDED, "there are too many copies");
     guarded_copies[guarded_count].start = start;
     guarded_copies[guarded_count++].size = inner;
     if (size != 0)
         memcpy(at, bytes, size);
-    guarded_must(mprotect(start, inner, protection) == 0);
+    must(mprotect(start, inner, protection) == 0, "pages can't be protected");
     return at;
 }
 
@@ -71,7 +69,7 @@ static inline void guarded_release(void)
     while (guarded_count > 0) {
         guarded_count--;
         size_t page = guarded_page(), size = guarded_copies[guarded_count].size + 2 * page;
-        guarded_must(munmap(guarded_copies[guarded_count].start - page, size) == 0);
+        must(munmap(guarded_copies[guarded_count].start - page, size) == 0, "pages can't be given back");
     }
 }
 

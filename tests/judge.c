@@ -409,8 +409,7 @@ static void no_addresses(void)
     compare("no address for no rules and no cells", pasturequill_judge(NULL, 0, 0, 1, NULL, 0), yes());
     compare("no address for no rules", pasturequill_judge(NULL, 0, 1, 2, two, 2), yes());
     compare("no address for no cells", pasturequill_judge(rule, RULE_SIZE, 0, 2, NULL, 0), no(0, 1));
-    compare("no address, and no instants", pasturequill_judge(NULL, 0, 0, 0, NULL, 0),
-            refused(PASTUREQUILL_WRONG_SIZE));
+    compare("no address, no instants", pasturequill_judge(NULL, 0, 0, 0, NULL, 0), refused(PASTUREQUILL_WRONG_SIZE));
 }
 
 int main(void)

@@ -39,14 +39,6 @@ static void make_room(void)
         ends[i] = guarded_pages(FRONT + MOST_BYTES) + FRONT + MOST_BYTES;
 }
 
-static void must(int fine, const char *what)
-{
-    if (!fine) {
-        fprintf(stderr, "server: %s\n", what);
-        exit(2);
-    }
-}
-
 static struct slice read_slice(int i, uint64_t size)
 {
     must(size <= MOST_BYTES, "a slice is too long");

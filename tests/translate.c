@@ -4,6 +4,7 @@
 #define SERVICE pasturequill_translate
 #define ELEMENT uint16_t
 #define EACH PASTUREQUILL_RULE_SIZE
+#define ROOMS 0, PASTUREQUILL_MOST_RULE_WORDS
 
 #include "counted.h"
 #include "rules.h"
@@ -33,13 +34,6 @@ static void expect_rules(const char *reason, struct bytes records, uint64_t atom
 static void expect_count(const char *reason, struct bytes records, uint64_t atoms, size_t rules)
 {
     expect_rules(reason, records, atoms, (struct output){NULL, RULE_SIZE * rules});
-}
-
-/* A refused formula, whatever the room. */
-static void expect_refusal(const char *reason, struct bytes records, uint64_t atoms, int refusal)
-{
-    expect(reason, records, atoms, 0, refusal, (struct output)NONE);
-    expect(reason, records, atoms, MOST_WORDS, refusal, (struct output)NONE);
 }
 
 /* ---- word for word */

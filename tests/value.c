@@ -235,19 +235,11 @@ static const struct refused {
 };
 
 /* ---- the greatest sizes */
-/* A step under stars, p and a diamond, so many records: p in the end. */
-static struct formula stars(size_t records)
-{
-    struct formula f = {.n = 0};
-    add_stars(&f, records, PASTUREQUILL_ATOM);
-    return f;
-}
-
 /* O: as many records as there may be are taken, one more is not. p is assumed at the last instant, so from all. */
 static void most_records(void)
 {
     static const uint8_t cells[MOST_INSTANTS] = {[MOST_INSTANTS - 1] = 1};
-    struct formula most = stars(MOST_RECORDS), more = stars(MOST_RECORDS + 1);
+    struct formula most = stars(MOST_RECORDS, PASTUREQUILL_ATOM), more = stars(MOST_RECORDS + 1, PASTUREQUILL_ATOM);
     struct bytes trace = {cells, sizeof cells}, longer = {most.records, size_of(&most) + 1};
     struct input in = {"O: 255 records at 32 instants", 1, MOST_INSTANTS, bytes_of(&most), trace};
     uint8_t values[MOST_INSTANTS];

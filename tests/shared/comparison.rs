@@ -42,14 +42,13 @@ impl Comparison {
         let mut comparison = Comparison { name, seen: Seen::default(), passed: 0, failed: 0, missing: vec![] };
         for i in 0..inputs {
             let tried = drawn(&mut random, i);
-            match difference(&tried, &mut random, &mut library, &mut comparison.seen) {
-                None => comparison.passed += 1,
-                Some(what) => {
-                    comparison.failed += 1;
-                    if comparison.failed <= 5 {
-                        println!("{name}: input {i}: {what}\n  {tried:?}");
-                    }
-                }
+            let Some(what) = difference(&tried, &mut random, &mut library, &mut comparison.seen) else {
+                comparison.passed += 1;
+                continue;
+            };
+            comparison.failed += 1;
+            if comparison.failed <= 5 {
+                println!("{name}: input {i}: {what}\n  {tried:?}");
             }
         }
         println!("{name}: {inputs} inputs");

@@ -40,12 +40,9 @@ impl Library {
     pub fn started() -> Library {
         let words: Vec<String> = args().skip(1).collect();
         let (program, others) = words.split_first().expect("the arguments are a command that starts server.c");
-        let mut process = Command::new(program)
-            .args(others)
-            .stdin(Stdio::piped())
-            .stdout(Stdio::piped())
-            .spawn()
-            .unwrap_or_else(|error| panic!("{program}: {error}"));
+        let mut command = Command::new(program);
+        command.args(others).stdin(Stdio::piped()).stdout(Stdio::piped());
+        let mut process = command.spawn().unwrap_or_else(|error| panic!("{program}: {error}"));
         let requests = process.stdin.take().expect("its input is a pipe");
         let answers = BufReader::new(process.stdout.take().expect("its output is a pipe"));
         Library { process, requests, answers }
