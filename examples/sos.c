@@ -11,7 +11,7 @@ enum { H, S, ATOMS };
 
 static const char names[] = "hs";
 
-/* Formula (1), and five steps. At their end is a test of true, which the paper takes as the repetition no times. */
+/* Formula (1), and help after five steps; true? is the path of no move, which the paper takes as no repetition. */
 #define KEEP_SENDING "[(not h? ; step)*](not h implies s)"
 #define HELP_AFTER_FIVE "<step ; step ; step ; step ; step ; true?>h"
 

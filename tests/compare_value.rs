@@ -66,7 +66,8 @@ fn satisfied_at(input: &Input, r: usize, trace: Trace, here: &Satisfied, total: 
         DIAMOND => those(instants, |k| here.leads[a][k] & here.holds[b] != 0),
         // Every end does, in this trace and also in the total one (line 4). For the total trace these are the same.
         BOX => those(instants, |k| all_ends(here, k) && all_ends(total, k)),
-        _ => 0,
+        FALSE | STEP..=STAR => 0,
+        _ => unreachable!("an accepted record has a core kind"),
     }
 }
 
@@ -84,7 +85,7 @@ fn leads_from(input: &Input, r: usize, k: usize, here: &Satisfied) -> Instants {
         CHOICE => here.leads[a][k] | here.leads[b][k],
         SEQUENCE => led_to(&here.leads[b], here.leads[a][k]),
         STAR => repeated(&here.leads[a], k),
-        _ => 0,
+        _ => 0, // a formula
     }
 }
 
