@@ -109,7 +109,7 @@ fn insert_above(random: &mut Random, formula: &mut Formula, r: usize, kind: u8) 
     formula.records = records.concat();
 }
 
-/// A formula with shorthands put into it until so many records come out of it, if two or more are missing: some with two
+/// A formula with shorthands put into it until so many records come out, if two or more are missing: some with two
 /// records of their own and some with three, never so that one is left.
 fn lengthened(random: &mut Random, mut formula: Formula, records: usize) -> Formula {
     let mut missing = records.saturating_sub(expansion(&formula).len());

@@ -1,8 +1,8 @@
 //! pasturequill_judge against a judge that was written apart from it, over random inputs, accepted and refused.
 //!
-//! The judge follows the specification sentence by sentence: what a literal is worth, where a rule is looked at, when it
-//! holds, which rule is the first that fails, and what is refused. Every input is drawn from a fixed seed. Compared are
-//! all four numbers of the answer, and that nothing in or around the rules and cells was written to.
+//! The judge follows the specification sentence by sentence: what a literal is worth, where a rule is looked at, when
+//! it holds, which rule is the first that fails, and what is refused. Every input is drawn from a fixed seed. Compared
+//! are all four numbers of the answer, and that nothing in or around the rules and cells was written to.
 
 mod shared;
 
@@ -71,8 +71,8 @@ fn causes(input: &Input) -> Vec<Cause> {
     found.iter().filter(|(_, there)| *there).map(|&(cause, _)| cause).collect()
 }
 
-/// An input, every cause to refuse it, and what must come back: the refusal, whether all rules hold, the first rule that
-/// fails, and its first failing instant.
+/// An input, every cause to refuse it, and what must come back: the refusal, whether all rules hold, the first rule
+/// that fails, and its first failing instant.
 #[derive(Debug)]
 struct Tried { input: Input, causes: Vec<Cause>, answer: [u64; 4] }
 

@@ -101,7 +101,7 @@ static const struct judged {
     {"not 1 is 0 in a body", ALL_HOLD, 1, 1, RULE(EVERY, NOT + P, NO), BYTES(1)},
     {"not 2 is 0", FAILS(0, 0), 1, 1, RULE(EVERY, YES, NOT + P), BYTES(2)},
     {"not 0 in a body is due", FAILS(0, 0), 2, 1, RULE(EVERY, NOT + P, Q), BYTES(0, 1)},
-    {"x, a or not c, all assumed: too little", FAILS(0, 0), 3, 1, WORDS(EVERY, YES, YES, P, Q, NOT + R), BYTES(1, 1, 1)},
+    {"x, a or not c, all 1: less than due", FAILS(0, 0), 3, 1, WORDS(EVERY, YES, YES, P, Q, NOT + R), BYTES(1, 1, 1)},
     {"x, a or not c, c false", ALL_HOLD, 3, 1, WORDS(EVERY, YES, YES, P, Q, NOT + R), BYTES(1, 1, 0)},
 
     /* every word is looked at, also those that a rule need not use */
