@@ -73,7 +73,7 @@ table-length s A L cells = length-each L _ (λ r. length-tabulate L _) (count s)
 -- ---- the services
 pub check-first : (s : List ℕ) (A : ℕ) → First (CheckRefused s A) (checkAnswer s A)
 unfolding checkAnswer
-check-first s A = first-of _ _ (check-ordered s A)
+check-first s A = first-of (check-ordered s A)
 
 pub expand-answered : (s : List ℕ) (A : ℕ) (out : List ℕ) →
     let answer = expandAnswer s A (length out) in
@@ -81,7 +81,7 @@ pub expand-answered : (s : List ℕ) (A : ℕ) (out : List ℕ) →
 unfolding expandAnswer expandAfter
 expand-answered s A out =
     let F = formAt s (pred (count s)) in
-    answered (wholeForm s) (postorder F) (first-of _ _ (expand-ordered s A (length out)))
+    answered (wholeForm s) (postorder F) (first-of (expand-ordered s A (length out)))
     (λ e. rw (eq-eqb _ 0 e) (records-length F)) (λ l. inr (inr (refl, rw (records-length F) at l)))
 
 pub value-answered : (s : List ℕ) (A L : ℕ) (cells out : List ℕ) →
@@ -89,7 +89,7 @@ pub value-answered : (s : List ℕ) (A L : ℕ) (cells out : List ℕ) →
     Answered (ValueRefused s A L cells (length out)) (answer .refusal) (answer .value) (count s * L) out (valueAfter s A L cells out)
 unfolding valueAnswer valueAfter
 value-answered s A L cells out =
-    answered _ (table s A L cells) (first-of _ _ (value-ordered s A L cells (length out)))
+    answered _ (table s A L cells) (first-of (value-ordered s A L cells (length out)))
     (λ e. table-length s A L cells) (λ l. inr (inr (refl, rw (table-length s A L cells) at l)))
 
 pub translate-answered : (s : List ℕ) (A : ℕ) (out : List ℕ) →
@@ -98,7 +98,7 @@ pub translate-answered : (s : List ℕ) (A : ℕ) (out : List ℕ) →
 unfolding translateAnswer translateAfter
 translate-answered s A out =
     let ρs = translation s A in
-    answered (length ρs) (words ρs) (first-of _ _ (translate-ordered s A (length out)))
+    answered (length ρs) (words ρs) (first-of (translate-ordered s A (length out)))
     (λ e. rw (eq-eqb _ 0 e) (words-length ρs))
     (λ l. inr (inr (refl, rw (translation-counted s A) at (rw (words-length ρs) at l))))
 
@@ -117,7 +117,7 @@ module _ (ws : List ℕ) (W L : ℕ) (cells : List ℕ) where
   ]
 
   pub judge-first : First (JudgeRefused ws W L cells) (judgeAnswer ws W L cells .refusal)
-  judge-first = rw judge-refusal (first-of _ _ (judge-ordered ws W L cells))
+  judge-first = rw judge-refusal (first-of (judge-ordered ws W L cells))
 
   pub judge-numbers : judgeAnswer ws W L cells .refusal ≢ 0
       → (judgeAnswer ws W L cells .holds ≡ 0) × (judgeAnswer ws W L cells .rule ≡ 0) × (judgeAnswer ws W L cells .instant ≡ 0)

@@ -9,13 +9,14 @@ use lib.ListN.{length}
 use lib.Dec.{leb, ltb, eqb}
 use borrow.Author.Tests.{ltb-true, lt-ltb, leb-true, le-leb, not-true}
 use Rattle.meaning.specs.Record.{Language, known, recordSize, mostRecords, count, zeroByte, fieldA, kindAt}
-use Rattle.meaning.specs.Record.{Kind, constant, atom, modal, move, test, choice, sequence, star, shorthand, unknown}
+use Rattle.meaning.specs.Record.{Kind, star}
 use Rattle.meaning.specs.Record.{Sort, formula, path, sortOf, Use, unused, atomNumber, child, places, ahead, back}
 use Rattle.meaning.specs.Formula.{mayStand, goes}
 use Rattle.meaning.specs.Tree.{pathAt}
 use Rattle.meaning.specs.Rule.{ruleSize, ruleAt, ruleWord}
 use Rattle.meaning.specs.Refusal.{stray, late, beyond, differ, misfit, isStar, badLiteral, badRule, mostRules}
 use Rattle.meaning.specs.Refusal.{ground1, ground2, ground3, ground4, ground5, ground6, ground6-last, ground7, ground8-cells, ground11, ground12, ground13, ground13-length}
+use Rattle.meaning.proofs.Cases.{by-kind}
 use Rattle.meaning.proofs.Fails.{and-holds, eqb-holds, eqb-fails}
 use Rattle.meaning.specs.Reason.{InField, WrongSize, WrongWord, WrongRule}
 
@@ -78,31 +79,25 @@ sizes-apply most W L cells =
     (Iff·trans one-of-three one-of-three)
 
 -- ---- one field
+-- A test that fails, of what is not so.
+never : {P : Type 0} → (P → true ≡ false) → (false ≡ true) ↔ P
+never n = (λ e. absurd (true≢false (sym e)), λ p. absurd (true≢false (n p)))
+
 -- An unused field that is not zero, a child that is late, an atom that there isn't, a child of the wrong sort.
-stray-applies : (u : Use) (v : ℕ) → (stray u v ≡ true) ↔ ((u ≡ unused) × (v ≢ 0))
-unfolding stray
-stray-applies unused v = Iff·trans (unequal v 0) (λ n. (refl, n), λ p. p .1)
-stray-applies atomNumber v = (λ e. absurd (true≢false (sym e)), λ p. absurd (true≢false cc))
-stray-applies (child σ) v = (λ e. absurd (true≢false (sym e)), λ p. absurd (true≢false cc))
-
-late-applies : (u : Use) (v r : ℕ) → (late u v r ≡ true) ↔ ((σ : Sort) × (u ≡ child σ) × (r ≤ v))
-unfolding late
-late-applies unused v r = (λ e. absurd (true≢false (sym e)), λ p. absurd (true≢false cc))
-late-applies atomNumber v r = (λ e. absurd (true≢false (sym e)), λ p. absurd (true≢false cc))
-late-applies (child σ) v r = Iff·trans (leb-holds r v) (λ l. (σ, refl, l), λ p. p .2)
-
-beyond-applies : (u : Use) (v A : ℕ) → (beyond u v A ≡ true) ↔ ((u ≡ atomNumber) × (A ≤ v))
-unfolding beyond
-beyond-applies unused v A = (λ e. absurd (true≢false (sym e)), λ p. absurd (true≢false cc))
-beyond-applies atomNumber v A = Iff·trans (leb-holds A v) (λ l. (refl, l), λ p. p .1)
-beyond-applies (child σ) v A = (λ e. absurd (true≢false (sym e)), λ p. absurd (true≢false cc))
-
-misfit-applies : (s : List ℕ) (u : Use) (v : ℕ)
-    → (misfit s u v ≡ true) ↔ ((σ : Sort) × (u ≡ child σ) × (sortOf (kindAt s v) ≢ σ))
-unfolding misfit
-misfit-applies s unused v = (λ e. absurd (true≢false (sym e)), λ p. absurd (true≢false cc))
-misfit-applies s atomNumber v = (λ e. absurd (true≢false (sym e)), λ p. absurd (true≢false cc))
-misfit-applies s (child σ) v = Iff·trans (differ-holds σ _) (λ n. (σ, refl, n), λ (τ, e, n) d. n (d ∙ cc))
+field-applies : (s : List ℕ) (r A v : ℕ) (u : Use) → ((stray u v ≡ true) ↔ ((u ≡ unused) × (v ≢ 0)))
+    × ((late u v r ≡ true) ↔ ((σ : Sort) × (u ≡ child σ) × (r ≤ v))) × ((beyond u v A ≡ true) ↔ ((u ≡ atomNumber) × (A ≤ v)))
+    × ((misfit s u v ≡ true) ↔ ((σ : Sort) × (u ≡ child σ) × (sortOf (kindAt s v) ≢ σ)))
+unfolding stray late beyond misfit
+field-applies s r A v unused =
+    (Iff·trans (unequal v 0) (λ n. (refl, n), λ p. p .1), never (λ p. cc), never (λ p. cc), never (λ p. cc))
+field-applies s r A v atomNumber =
+    (never (λ p. cc), never (λ p. cc), Iff·trans (leb-holds A v) (λ l. (refl, l), λ p. p .1), never (λ p. cc))
+field-applies s r A v (child σ) = (
+  never (λ p. cc),
+  Iff·trans (leb-holds r v) (λ l. (σ, refl, l), λ p. p .2),
+  never (λ p. cc),
+  Iff·trans (differ-holds σ _) (λ n. (σ, refl, n), λ (τ, e, n) d. n (d ∙ cc)),
+)
 
 -- ---- one record
 module _ (s : List ℕ) (r : ℕ) where
@@ -112,19 +107,19 @@ module _ (s : List ℕ) (r : ℕ) where
 
   pub zero-applies : (ground3 s r .applies ≡ true) ↔ ((zeroByte s r ≢ 0) ⊎ InField s r (λ u v. (u ≡ unused) × (v ≢ 0)))
   unfolding ground3
-  zero-applies = Iff·trans (either (either (unequal _ _) (stray-applies _ _)) (stray-applies _ _)) one-of-three
+  zero-applies = Iff·trans (either (either (unequal _ _) (field-applies s r 0 _ _ .0)) (field-applies s r 0 _ _ .0)) one-of-three
 
   pub late-child-applies : (ground4 s r .applies ≡ true) ↔ InField s r (λ u v. (σ : Sort) × (u ≡ child σ) × (r ≤ v))
   unfolding ground4
-  late-child-applies = either (late-applies _ _ r) (late-applies _ _ r)
+  late-child-applies = either (field-applies s r 0 _ _ .1) (field-applies s r 0 _ _ .1)
 
   pub atom-applies : (A : ℕ) → (ground5 s A r .applies ≡ true) ↔ InField s r (λ u v. (u ≡ atomNumber) × (A ≤ v))
   unfolding ground5
-  atom-applies A = either (beyond-applies _ _ A) (beyond-applies _ _ A)
+  atom-applies A = either (field-applies s r A _ _ .2) (field-applies s r A _ _ .2)
 
   pub sort-applies : (ground6 s r .applies ≡ true) ↔ InField s r (λ u v. (σ : Sort) × (u ≡ child σ) × (sortOf (kindAt s v) ≢ σ))
   unfolding ground6
-  sort-applies = either (misfit-applies s _ _) (misfit-applies s _ _)
+  sort-applies = either (field-applies s r 0 _ _ .3) (field-applies s r 0 _ _ .3)
 
   pub parents-apply : (ground7 s r .applies ≡ true) ↔ (places s r ≢ 1)
   unfolding ground7
@@ -136,22 +131,15 @@ unfolding ground6-last differ
 last-applies s = go (sortOf (kindAt s (pred (count s))))
   where
     go : (σ : Sort) → (differ formula σ ≡ true) ↔ (σ ≡ path)
-    go formula = (λ e. absurd (true≢false (sym e)), λ e. absurd (true≢false cc))
+    go formula = never (λ e. cc)
     go path = (λ e. refl, λ e. refl)
 
 -- ---- stars
 star-is : (K : Kind) → (isStar K ≡ true) ↔ (K ≡ star)
 unfolding isStar
-star-is (constant v) = (λ e. absurd (true≢false (sym e)), λ e. absurd (true≢false cc))
-star-is atom = (λ e. absurd (true≢false (sym e)), λ e. absurd (true≢false cc))
-star-is (modal m) = (λ e. absurd (true≢false (sym e)), λ e. absurd (true≢false cc))
-star-is (move w) = (λ e. absurd (true≢false (sym e)), λ e. absurd (true≢false cc))
-star-is test = (λ e. absurd (true≢false (sym e)), λ e. absurd (true≢false cc))
-star-is choice = (λ e. absurd (true≢false (sym e)), λ e. absurd (true≢false cc))
-star-is sequence = (λ e. absurd (true≢false (sym e)), λ e. absurd (true≢false cc))
-star-is star = (λ e. refl, λ e. refl)
-star-is (shorthand σ) = (λ e. absurd (true≢false (sym e)), λ e. absurd (true≢false cc))
-star-is unknown = (λ e. absurd (true≢false (sym e)), λ e. absurd (true≢false cc))
+star-is =
+    by-kind _ (λ v. never (λ e. cc)) (never (λ e. cc)) (λ m. never (λ e. cc)) (λ w. never (λ e. cc)) (never (λ e. cc)) (never (λ e. cc))
+    (never (λ e. cc)) (λ e. refl, λ e. refl) (λ σ. never (λ e. cc)) (never (λ e. cc))
 
 module _ (s : List ℕ) (r : ℕ) where
   pub turns-apply : (ground12 s r .applies ≡ true)

@@ -5,12 +5,13 @@ use Prim.Native.Nat.{ℕ, zero, suc, _+_, _≤_, _<_, max}
 use mathlib.Core.List.{List}
 use native.Mathlib.Nat.{le-refl}
 use native.Mathlib.Omega.{arith}
-use Rattle.meaning.specs.Record.{Kind, Shorthand, denied, both, either, implies, end, beside, along, until, since, columnsOf, argumentsOf}
+use Rattle.meaning.specs.Record.{Kind, Shorthand, columnsOf, argumentsOf}
 use Rattle.meaning.specs.Record.{Language, Use, unused, atomNumber, child, useA, useB, count, kindAt}
 use Rattle.meaning.specs.Formula.{Form, Path}
 use Rattle.meaning.specs.Shorthand.{expansion}
 use Rattle.meaning.specs.Tree.{Tree, asForm, asPath, nodeOf, treeAt, formAt}
 use Rattle.meaning.specs.WellFormed.{Fits, WellFormed}
+use Rattle.meaning.proofs.Cases.{by-kind, by-shorthand}
 use Rattle.meaning.proofs.Nodes.{tree-of}
 
 unfoldable mutual
@@ -38,33 +39,20 @@ module _ (A : ℕ) where
   Low (child σ) v t = treeAtoms t ≤ A
 
   -- A shorthand has its arguments' atoms.
-  expansion-atoms : (σ : Shorthand) (a b : ℕ) (t u : Tree) → Low (argumentsOf σ .0) a t → Low (argumentsOf σ .1) b u
+  expansion-atoms : (a b : ℕ) (t u : Tree) (σ : Shorthand) → Low (argumentsOf σ .0) a t → Low (argumentsOf σ .1) b u
       → formAtoms (expansion σ (asForm t) (asForm u)) ≤ A
   unfolding expansion argumentsOf formAtoms
-  expansion-atoms denied a b t u p q = omega arith
-  expansion-atoms both a b t u p q = omega arith
-  expansion-atoms either a b t u p q = omega arith
-  expansion-atoms implies a b t u p q = omega arith
-  expansion-atoms (end w) a b t u p q = omega arith
-  expansion-atoms (beside w m) a b t u p q = omega arith
-  expansion-atoms (along w m) a b t u p q = omega arith
-  expansion-atoms until a b t u p q = omega arith
-  expansion-atoms since a b t u p q = omega arith
+  expansion-atoms a b t u =
+      by-shorthand _ (omega arith) (omega arith) (omega arith) (omega arith) (λ w. omega arith) (λ w m. omega arith) (λ w m. omega arith)
+      (omega arith) (omega arith)
 
   -- A node has its children's.
-  node-atoms : (K : Kind) (a b : ℕ) (tree : ℕ → Tree) → Low (useA K) a (tree a) → Low (useB K) b (tree b)
+  node-atoms : (a b : ℕ) (tree : ℕ → Tree) (K : Kind) → Low (useA K) a (tree a) → Low (useB K) b (tree b)
       → treeAtoms (nodeOf K a b tree) ≤ A
   unfolding nodeOf columnsOf asForm asPath formAtoms
-  node-atoms (Kind.constant v) a b tree p q = omega arith
-  node-atoms Kind.atom a b tree p q = omega arith
-  node-atoms (Kind.modal m) a b tree p q = omega arith
-  node-atoms (Kind.move w) a b tree p q = omega arith
-  node-atoms Kind.test a b tree p q = omega arith
-  node-atoms Kind.choice a b tree p q = omega arith
-  node-atoms Kind.sequence a b tree p q = omega arith
-  node-atoms Kind.star a b tree p q = omega arith
-  node-atoms (Kind.shorthand σ) a b tree p q = omega (arith, expansion-atoms σ a b (tree a) (tree b) p q)
-  node-atoms Kind.unknown a b tree p q = omega arith
+  node-atoms a b tree =
+      by-kind _ (λ v. omega arith) (omega arith) (λ m. omega arith) (λ w. omega arith) (omega arith) (omega arith) (omega arith) (omega arith)
+      (λ σ p q. omega (arith, expansion-atoms a b (tree a) (tree b) σ p q)) (omega arith)
 
 module _ {ℓ : Language} {s : List ℕ} {A : ℕ} (w : WellFormed ℓ s A) where
   -- A field that fits is low if the records before have low trees.
@@ -82,7 +70,7 @@ module _ {ℓ : Language} {s : List ℕ} {A : ℕ} (w : WellFormed ℓ s A) wher
       let before : (q : ℕ) → q < r → treeAtoms (treeAt s q) ≤ A = λ q h. tree-atoms n q (omega arith) (omega arith) in
       let first = field-low r before (useA K) _ (w .first r l) in
       let second = field-low r before (useB K) _ (w .second r l) in
-      rw (tree-of w r l) (node-atoms A K _ _ (treeAt s) first second)
+      rw (tree-of w r l) (node-atoms A _ _ (treeAt s) K first second)
 
   pub form-atoms : (r : ℕ) → r < count s → formAtoms (formAt s r) ≤ A
   form-atoms r l = omega (arith, tree-atoms (suc r) r (le-refl _) l)

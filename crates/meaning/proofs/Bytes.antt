@@ -10,8 +10,8 @@ use native.Mathlib.Omega.{arith}
 use lib.ListN.{length, getD, length-append, List·getD-append}
 use lib.Seq.{getD-append-add}
 use Rattle.meaning.specs.Record.{recordSize, recordBytes, twoBytes, kinds, kindOf, numberOf, shorthandNumber, kindByte, kindAt, zeroByte, fieldA, fieldB}
-use Rattle.meaning.specs.Record.{Kind, constant, atom, modal, move, test, choice, sequence, star, shorthand, unknown}
-use Rattle.meaning.specs.Record.{diamond, box, ahead, back, denied, both, either, implies, end, beside, along, until, since}
+use Rattle.meaning.specs.Record.{Kind, diamond, box, ahead, back}
+use Rattle.meaning.proofs.Cases.{by-kind, by-shorthand}
 
 pub record At (e : List ℕ) (n : ℕ) (part : List ℕ) : Type 0 where
   pub byte : (i : ℕ) → i < length part → getD e (recordSize * n + i) 0 ≡ getD part i 0
@@ -25,34 +25,11 @@ pub record Reads (e : List ℕ) (r : ℕ) (K : Kind) (a b : ℕ) : Type 0 where
 -- ---- kinds by number, and back
 kind-again : (K : Kind) → kindOf (numberOf K) ≡ K
 unfolding kinds kindOf numberOf shorthandNumber
-kind-again (constant false) = refl
-kind-again (constant true) = refl
-kind-again atom = refl
-kind-again (modal diamond) = refl
-kind-again (modal box) = refl
-kind-again (move ahead) = refl
-kind-again (move back) = refl
-kind-again test = refl
-kind-again choice = refl
-kind-again sequence = refl
-kind-again star = refl
-kind-again (shorthand denied) = refl
-kind-again (shorthand both) = refl
-kind-again (shorthand either) = refl
-kind-again (shorthand implies) = refl
-kind-again (shorthand (end ahead)) = refl
-kind-again (shorthand (end back)) = refl
-kind-again (shorthand (beside ahead diamond)) = refl
-kind-again (shorthand (beside ahead box)) = refl
-kind-again (shorthand (beside back diamond)) = refl
-kind-again (shorthand (beside back box)) = refl
-kind-again (shorthand (along ahead diamond)) = refl
-kind-again (shorthand (along ahead box)) = refl
-kind-again (shorthand (along back diamond)) = refl
-kind-again (shorthand (along back box)) = refl
-kind-again (shorthand until) = refl
-kind-again (shorthand since) = refl
-kind-again unknown = refl
+kind-again =
+    by-kind _ (elim [ false ↦ refl | true ↦ refl ]) refl (elim [ diamond ↦ refl | box ↦ refl ]) (elim [ ahead ↦ refl | back ↦ refl ])
+    refl refl refl refl (by-shorthand _ refl refl refl refl (elim [ ahead ↦ refl | back ↦ refl ])
+    (elim [ ahead ↦ elim [ diamond ↦ refl | box ↦ refl ] | back ↦ elim [ diamond ↦ refl | box ↦ refl ] ])
+    (elim [ ahead ↦ elim [ diamond ↦ refl | box ↦ refl ] | back ↦ elim [ diamond ↦ refl | box ↦ refl ] ]) refl refl) refl
 
 -- ---- records
 -- Two bytes that hold a number.

@@ -8,13 +8,14 @@ use native.Mathlib.Nat.{eq-or-lt-of-le, le-of-suc-le-suc}
 use native.Mathlib.Omega.{arith}
 use lib.ListN.{length, getD, length-append, List·getD-append}
 use lib.Seq.{getD-at}
-use Rattle.meaning.specs.Record.{Kind, constant, atom, modal, move, test, choice, sequence, star, shorthand, unknown, columnsOf, argumentsOf}
-use Rattle.meaning.specs.Record.{Shorthand, denied, both, either, implies, end, beside, along, until, since}
+use Rattle.meaning.specs.Record.{Kind, columnsOf, argumentsOf}
+use Rattle.meaning.specs.Record.{Shorthand}
 use Rattle.meaning.specs.Record.{Use, unused, atomNumber, child, useA, useB, Sort, sortOf}
 use Rattle.meaning.specs.Record.{Language, count, kindAt, fieldA, fieldB}
 use Rattle.meaning.specs.Shorthand.{expansion}
 use Rattle.meaning.specs.Tree.{Tree, noTree, asForm, asPath, nodeOf, trees, treeAt, formAt, pathAt}
 use Rattle.meaning.specs.WellFormed.{Fits, WellFormed}
+use Rattle.meaning.proofs.Cases.{by-kind, by-shorthand}
 
 -- ---- the list of trees
 module _ (s : List ℕ) where
@@ -47,33 +48,19 @@ Agree atomNumber t t′ = Unit {0}
 Agree (child σ) t t′ = t ≡ t′
 
 -- A shorthand looks at its arguments alone.
-expansion-agrees : (σ : Shorthand) (t t′ u u′ : Tree) → Agree (argumentsOf σ .0) t t′ → Agree (argumentsOf σ .1) u u′
+expansion-agrees : (t t′ u u′ : Tree) (σ : Shorthand) → Agree (argumentsOf σ .0) t t′ → Agree (argumentsOf σ .1) u u′
     → expansion σ (asForm t) (asForm u) ≡ expansion σ (asForm t′) (asForm u′)
 unfolding expansion argumentsOf
-expansion-agrees denied t t′ u u′ p q = cc
-expansion-agrees both t t′ u u′ p q = cc
-expansion-agrees either t t′ u u′ p q = cc
-expansion-agrees implies t t′ u u′ p q = cc
-expansion-agrees (end w) t t′ u u′ p q = cc
-expansion-agrees (beside w m) t t′ u u′ p q = cc
-expansion-agrees (along w m) t t′ u u′ p q = cc
-expansion-agrees until t t′ u u′ p q = cc
-expansion-agrees since t t′ u u′ p q = cc
+expansion-agrees t t′ u u′ =
+    by-shorthand _ (λ p q. cc) (λ p q. cc) (λ p q. cc) (λ p q. cc) (λ w p q. cc) (λ w m p q. cc) (λ w m p q. cc) (λ p q. cc) (λ p q. cc)
 
 -- A node looks at its children alone.
-node-agrees : (K : Kind) (a b : ℕ) (t t′ : ℕ → Tree) → Agree (useA K) (t a) (t′ a) → Agree (useB K) (t b) (t′ b)
+node-agrees : (a b : ℕ) (t t′ : ℕ → Tree) (K : Kind) → Agree (useA K) (t a) (t′ a) → Agree (useB K) (t b) (t′ b)
     → nodeOf K a b t ≡ nodeOf K a b t′
 unfolding nodeOf columnsOf
-node-agrees (constant v) a b t t′ p q = refl
-node-agrees atom a b t t′ p q = refl
-node-agrees (modal m) a b t t′ p q = cc
-node-agrees (move w) a b t t′ p q = refl
-node-agrees test a b t t′ p q = cc
-node-agrees choice a b t t′ p q = cc
-node-agrees sequence a b t t′ p q = cc
-node-agrees star a b t t′ p q = cc
-node-agrees (shorthand σ) a b t t′ p q = cc (expansion-agrees σ _ _ _ _ p q)
-node-agrees unknown a b t t′ p q = refl
+node-agrees a b t t′ =
+    by-kind _ (λ v p q. refl) (λ p q. refl) (λ m p q. cc) (λ w p q. refl) (λ p q. cc) (λ p q. cc) (λ p q. cc) (λ p q. cc)
+    (λ σ p q. cc (expansion-agrees _ _ _ _ σ p q)) (λ p q. refl)
 
 -- A child that fits is earlier, so its tree is settled.
 child-settled : (s : List ℕ) (A r : ℕ) (u : Use) (v : ℕ) → Fits s A r u v
@@ -89,7 +76,7 @@ tree-of {s} {A} w r l =
     let K = kindAt s r in
     let a = child-settled s A r (useA K) (fieldA s r) (w .first r l) in
     let b = child-settled s A r (useB K) (fieldB s r) (w .second r l) in
-    tree-node s r ∙ node-agrees K _ _ _ _ a b
+    tree-node s r ∙ node-agrees _ _ _ _ K a b
 
 -- So is its formula, or its path, by its kind.
 module _ {ℓ : Language} {s : List ℕ} {A r : ℕ} (w : WellFormed ℓ s A) (l : r < count s) where
@@ -115,18 +102,9 @@ asSort Sort.formula t = Tree.formula (asForm t)
 asSort Sort.path t = Tree.path (asPath t)
 
 -- A node is of its kind's sort.
-node-sort : (K : Kind) (a b : ℕ) (t : ℕ → Tree) → nodeOf K a b t ≡ asSort (sortOf K) (nodeOf K a b t)
+node-sort : (a b : ℕ) (t : ℕ → Tree) (K : Kind) → nodeOf K a b t ≡ asSort (sortOf K) (nodeOf K a b t)
 unfolding nodeOf columnsOf asForm asPath
-node-sort (constant v) a b t = refl
-node-sort atom a b t = refl
-node-sort (modal m) a b t = refl
-node-sort (move w) a b t = refl
-node-sort test a b t = refl
-node-sort choice a b t = refl
-node-sort sequence a b t = refl
-node-sort star a b t = refl
-node-sort (shorthand σ) a b t = refl
-node-sort unknown a b t = refl
+node-sort a b t = by-kind _ (λ v. refl) refl (λ m. refl) (λ w. refl) refl refl refl refl (λ σ. refl) refl
 
 -- So a record's tree is formula (formAt s r) or path (pathAt s r), by its sort.
 pub tree-sort : (s : List ℕ) (r : ℕ) (σ : Sort) → sortOf (kindAt s r) ≡ σ → treeAt s r ≡ asSort σ (treeAt s r)

@@ -3,8 +3,8 @@
 use Prim.Native.Nat.{ℕ, pred, _+_, _*_, _%_, _<_, _≤_, zero-le}
 use mathlib.Core.Path.{_≡_, refl, sym, _∙_}
 use mathlib.Core.Bool.{true≢false}
-use mathlib.Core.Logic.{inl, inr, _≢_, Iff·trans}
-use mathlib.Core.List.{List, []}
+use mathlib.Core.Logic.{inl, inr, Iff·trans}
+use mathlib.Core.List.{List}
 use native.Mathlib.Decide.{ℕ-discrete}
 use native.Mathlib.Nat.{mul-comm, mul-le-mul-left}
 use native.Mathlib.Omega.{arith}

@@ -6,43 +6,26 @@ use mathlib.Core.List.{List, [], _∷_, _++_}
 use native.Mathlib.Omega.{arith}
 use lib.ListN.{length, length-append}
 use Rattle.meaning.specs.Run.{each}
-use Rattle.meaning.specs.Record.{Kind, constant, atom, modal, move, test, choice, sequence, star, shorthand, unknown}
+use Rattle.meaning.specs.Record.{Kind}
 use Rattle.meaning.specs.Record.{count, kindAt, Mode, diamond, box, ahead, back}
 use Rattle.meaning.specs.Rule.{Rule, ruleSize, words}
 use Rattle.meaning.specs.Translation.{joinRules, testRules, moveRules, rulesOf, rulesAt, translation}
 use Rattle.meaning.specs.Translation.{context, ruleNumber, ruleSum}
+use Rattle.meaning.proofs.Cases.{by-kind}
 
 -- ---- one record
-pub rules-counted : (K : Kind) (m : Mode) (x a b c i : ℕ) → length (rulesOf K m x a b c i) ≡ ruleNumber K m
+rules-few : (K : Kind) (m : Mode) (x a b c i : ℕ) → (length (rulesOf K m x a b c i) ≡ ruleNumber K m) × (ruleNumber K m ≤ 4)
 unfolding ruleNumber rulesOf joinRules testRules moveRules
-rules-counted (constant v) m x a b c i = refl
-rules-counted atom m x a b c i = refl
-rules-counted (modal n) m x a b c i = refl
-rules-counted (move ahead) m x a b c i = refl
-rules-counted (move back) m x a b c i = refl
-rules-counted test diamond x a b c i = refl
-rules-counted test box x a b c i = refl
-rules-counted choice diamond x a b c i = refl
-rules-counted choice box x a b c i = refl
-rules-counted sequence m x a b c i = refl
-rules-counted star diamond x a b c i = refl
-rules-counted star box x a b c i = refl
-rules-counted (shorthand σ) m x a b c i = refl
-rules-counted unknown m x a b c i = refl
+rules-few =
+    by-kind _ (omega arith) (omega arith) (omega arith) (elim [ ahead ↦ omega arith | back ↦ omega arith ])
+    (elim [ diamond ↦ omega arith | box ↦ omega arith ]) (elim [ diamond ↦ omega arith | box ↦ omega arith ]) (omega arith)
+    (elim [ diamond ↦ omega arith | box ↦ omega arith ]) (omega arith) (omega arith)
+
+pub rules-counted : (K : Kind) (m : Mode) (x a b c i : ℕ) → length (rulesOf K m x a b c i) ≡ ruleNumber K m
+rules-counted K m x a b c i = rules-few K m x a b c i .0
 
 number-few : (K : Kind) (m : Mode) → ruleNumber K m ≤ 4
-unfolding ruleNumber
-number-few (constant v) m = omega arith
-number-few atom m = omega arith
-number-few (modal n) m = omega arith
-number-few (move w) m = omega arith
-number-few test diamond = omega arith
-number-few test box = omega arith
-number-few choice m = omega arith
-number-few sequence m = omega arith
-number-few star m = omega arith
-number-few (shorthand σ) m = omega arith
-number-few unknown m = omega arith
+number-few K m = rules-few K m 0 0 0 0 0 .1
 
 record-counted : (s : List ℕ) (A r : ℕ) → length (rulesAt s A r) ≡ ruleNumber (kindAt s r) (context s r .mode)
 unfolding rulesAt
