@@ -15,7 +15,7 @@ use Rattle.meaning.specs.Refusal.{ground1, ground2, ground3, ground4, gr
 use Rattle.meaning.specs.WellFormed.{Fits, WellFormed}
 use Rattle.meaning.specs.Service.{checkAnswer}
 use Rattle.meaning.proofs.Fails.{tests}
-use Rattle.meaning.proofs.First.{Clear, Numbered, clear-none, none-clear, clear-append, clear-each, each-clear}
+use Rattle.meaning.proofs.First.{Clear, Numbered, clear-none, none-clear, clear-append, clear-each, each-clears}
 use Rattle.meaning.proofs.First.{numbered-append, numbered-each}
 
 -- ---- where a ground does not apply
@@ -24,10 +24,6 @@ pub ground1-fails : (s : List ℕ)
     → (ground1 s .applies ≡ false) ↔ ((length s ≡ recordSize * count s) × (0 < count s) × (count s ≤ mostRecords))
 unfolding ground1
 ground1-fails s = simp tests (omega arith)
-
--- The grounds of each record in turn: those of every record.
-each-clears : (f : ℕ → List Ground) (n : ℕ) → Clear (each n f) ↔ ((i : ℕ) → i < n → Clear (f i))
-each-clears f n = (clear-each f n, each-clear f n)
 
 module _ (ℓ : Language) (s : List ℕ) (A : ℕ) where
   module _ (r : ℕ) where

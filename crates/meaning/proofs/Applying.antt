@@ -2,7 +2,7 @@
 use Prim.Native.Nat.{ℕ, zero, suc, pred, _*_, _%_, _<_, _≤_}
 use mathlib.Core.Path.{_≡_, refl, sym, _∙_}
 use mathlib.Core.Bool.{Bool, true, false, not, _&&_, _||_, true≢false}
-use mathlib.Core.Logic.{_⊎_, inl, inr, _↔_, _≢_, Iff·trans, ⊎-map}
+use mathlib.Core.Logic.{_⊎_, inl, inr, _↔_, _≢_, Iff·rfl, Iff·trans, ⊎-map}
 use mathlib.Core.List.{List}
 use native.Mathlib.Omega.{arith}
 use lib.ListN.{length}
@@ -17,7 +17,7 @@ use Rattle.meaning.specs.Rule.{ruleSize, ruleAt, ruleWord}
 use Rattle.meaning.specs.Refusal.{stray, late, beyond, differ, misfit, isStar, badLiteral, badRule, mostRules}
 use Rattle.meaning.specs.Refusal.{ground1, ground2, ground3, ground4, ground5, ground6, ground6-last, ground7, ground8-cells, ground11, ground12, ground13, ground13-length}
 use Rattle.meaning.proofs.Cases.{by-kind}
-use Rattle.meaning.proofs.Fails.{and-holds, eqb-holds, eqb-fails}
+use Rattle.meaning.proofs.Fails.{and-holds, not-holds, eqb-holds, eqb-fails}
 use Rattle.meaning.specs.Reason.{InField, WrongSize, WrongWord, WrongRule}
 
 -- ---- tests
@@ -25,9 +25,6 @@ use Rattle.meaning.specs.Reason.{InField, WrongSize, WrongWord, WrongRul
 or-holds : (a b : Bool) → ((a || b) ≡ true) ↔ ((a ≡ true) ⊎ (b ≡ true))
 or-holds true b = (λ e. inl refl, λ p. refl)
 or-holds false b = (inr, λ p. elim p [ inl e ↦ absurd (true≢false (sym e)) | inr e ↦ e ])
-
-not-holds : (b : Bool) → (not b ≡ true) ↔ (b ≡ false)
-not-holds b = (not-true b, λ e. rw e)
 
 pub ltb-holds : (a b : ℕ) → (ltb a b ≡ true) ↔ (a < b)
 ltb-holds a b = (ltb-true a b, lt-ltb a b)
@@ -55,9 +52,6 @@ module _ {a b : Bool} {P Q : Type 0} (p : (a ≡ true) ↔ P) (q : (b ≡ true) 
     λ e. let (x, y) = and-holds a b .0 e in (p .0 x, q .0 y),
     λ (x, y). and-holds a b .1 (p .1 x, q .1 y),
   )
-
-same : {P : Type 0} → P ↔ P
-same = (λ p. p, λ p. p)
 
 -- Of three, one is so.
 pub one-of-three : {P Q R : Type 0} → ((P ⊎ Q) ⊎ R) ↔ (P ⊎ Q ⊎ R)
@@ -145,11 +139,11 @@ module _ (s : List ℕ) (r : ℕ) where
   pub turns-apply : (ground12 s r .applies ≡ true)
       ↔ ((kindAt s r ≡ star) × (goes ahead (pathAt s (fieldA s r)) ≡ true) × (goes back (pathAt s (fieldA s r)) ≡ true))
   unfolding ground12
-  turns-apply = Iff·trans (both (star-is _) (both same same)) (λ (k, (a, b)). (k, a, b), λ (k, a, b). (k, (a, b)))
+  turns-apply = Iff·trans (both (star-is _) (both Iff·rfl Iff·rfl)) (λ (k, (a, b)). (k, a, b), λ (k, a, b). (k, (a, b)))
 
   pub stands-apply : (ground11 s r .applies ≡ true) ↔ ((kindAt s r ≡ star) × (mayStand (pathAt s (fieldA s r)) ≡ true))
   unfolding ground11
-  stands-apply = both (star-is _) same
+  stands-apply = both (star-is _) Iff·rfl
 
 -- ---- rules
 pub words-apply : (ws : List ℕ)
@@ -159,7 +153,7 @@ words-apply ws = either (unequal _ _) (ltb-holds _ _)
 
 word-applies : (W place w : ℕ) → (badLiteral W place w ≡ true) ↔ WrongWord W place w
 unfolding badLiteral
-word-applies W place w = either (leb-holds _ _) (both same (unequal _ _))
+word-applies W place w = either (leb-holds _ _) (both Iff·rfl (unequal _ _))
 
 -- One of the words 1 to 5, or something else.
 one-of-five : (P : Type 0) (F : ℕ → Type 0)

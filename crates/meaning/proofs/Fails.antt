@@ -4,7 +4,7 @@ use mathlib.Core.Path.{_≡_, refl, sym}
 use mathlib.Core.Bool.{Bool, true, false, not, _&&_, _||_, true≢false}
 use mathlib.Core.Logic.{_≢_, _↔_}
 use lib.Dec.{leb, eqb}
-use borrow.Author.Tests.{leb-false, eqb-true, eqb-false, not-false, lt-leb, eq-eqb, ne-eqb}
+use borrow.Author.Tests.{leb-false, eqb-true, eqb-false, not-true, not-false, lt-leb, eq-eqb, ne-eqb}
 use Rattle.meaning.specs.Record.{Sort, formula, path}
 use Rattle.meaning.specs.Refusal.{differ}
 
@@ -18,7 +18,10 @@ pub or-fails : (a b : Bool) → ((a || b) ≡ false) ↔ ((a ≡ false) × (b �
 or-fails true b = (λ e. absurd (true≢false e), λ p. p .0)
 or-fails false b = (λ e. (refl, e), λ p. p .1)
 
--- A negated one fails where the test holds.
+-- A negated one holds where the test fails, and fails where it holds.
+pub not-holds : (b : Bool) → (not b ≡ true) ↔ (b ≡ false)
+not-holds b = (not-true b, λ e. rw e)
+
 pub not-fails : (b : Bool) → (not b ≡ false) ↔ (b ≡ true)
 not-fails b = (not-false b, λ e. rw e)
 

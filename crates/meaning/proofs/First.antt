@@ -10,11 +10,12 @@ use native.Mathlib.Numerals.{add-one}
 use native.Mathlib.Omega.{arith}
 use Rattle.meaning.specs.Run.{each}
 use Rattle.meaning.specs.Refusal.{Ground, ofFirst, firstOf}
+use Rattle.meaning.proofs.Bounds.{below-suc}
+use Rattle.meaning.proofs.Runs.{All, all-append, all-each}
 
 -- No ground applies.
 abbrev pub Clear : List Ground → Type 0
-Clear [] = Unit {0}
-Clear (g ∷ gs) = (g .applies ≡ false) × Clear gs
+Clear = All (λ g. g .applies ≡ false)
 
 -- A test holds or fails.
 by-test : (b : Bool) → (b ≡ true) ⊎ (b ≡ false)
@@ -23,8 +24,7 @@ by-test false = inr refl
 
 -- Each ground has a number, that is, one above 0.
 abbrev pub Numbered : List Ground → Type 0
-Numbered [] = Unit {0}
-Numbered (g ∷ gs) = (0 < g .number) × Numbered gs
+Numbered = All (λ g. 0 < g .number)
 
 -- ---- what is asked of the first that applies
 module _ (what : Ground → ℕ) where
@@ -75,33 +75,24 @@ none-clear (g ∷ gs) n e = elim (by-test (g .applies)) [
 ]
 
 pub clear-append : (gs hs : List Ground) → Clear (gs ++ hs) ↔ (Clear gs × Clear hs)
-clear-append [] hs = (λ c. (tt, c), λ c. c .1)
-clear-append (g ∷ gs) hs =
-    let r = clear-append gs hs in
-    (λ c. ((c .0, (r .0 (c .1)) .0), (r .0 (c .1)) .1), λ c. (c .0 .0, r .1 (c .0 .1, c .1)))
+clear-append = all-append _
 
 pub numbered-append : (gs hs : List Ground) → Numbered gs → Numbered hs → Numbered (gs ++ hs)
-numbered-append [] hs n m = m
-numbered-append (g ∷ gs) hs n m = (n .0, numbered-append gs hs (n .1) m)
+numbered-append gs hs n m = all-append _ gs hs .1 (n, m)
 
 -- ---- the grounds of each record, or of each rule or cell, in turn
 module _ (f : ℕ → List Ground) where
   pub numbered-each : (n : ℕ) → ((i : ℕ) → Numbered (f i)) → Numbered (each n f)
-  unfolding each
-  numbered-each zero h = tt
-  numbered-each (suc n) h = numbered-append (each n f) (f n) (numbered-each n h) (h n)
+  numbered-each n h = all-each _ f n .1 (λ i _. h i)
+
+  pub each-clears : (n : ℕ) → Clear (each n f) ↔ ((i : ℕ) → i < n → Clear (f i))
+  each-clears = all-each _ f
 
   pub each-clear : (n : ℕ) → ((i : ℕ) → i < n → Clear (f i)) → Clear (each n f)
-  unfolding each
-  each-clear zero h = tt
-  each-clear (suc n) h = (clear-append (each n f) (f n)) .1 (each-clear n (λ i l. h i (omega arith)), h n (le-refl _))
+  each-clear n = each-clears n .1
 
   pub clear-each : (n : ℕ) → Clear (each n f) → (i : ℕ) → i < n → Clear (f i)
-  unfolding each
-  clear-each zero c i l = absurd (omega arith)
-  clear-each (suc n) c i l =
-      let b = (clear-append (each n f) (f n)) .0 c in
-      ⊎-elim (λ (e : i ≡ n). rw e (b .1)) (λ m. clear-each n (b .0) i m) (eq-or-lt-of-le (le-of-suc-le-suc l))
+  clear-each n = each-clears n .0
 
   -- ---- a scan: nothing was found before i
   pub scan-none : Clear (each 0 f)
@@ -117,13 +108,10 @@ module _ (f : ℕ → List Ground) where
       → x ≡ firstOf (each n f)
   unfolding each
   scan-found zero i l c e q = absurd (omega arith)
-  scan-found (suc n) i l c e q =
-      ⊎-elim
-      (λ (d : i ≡ n). rw (← d) (e ∙ sym (clear-skip (each i f) (f i) c)))
-      (λ (m : i < n).
-      let g = scan-found n i m c e q in
-      g ∙ sym (found-stop (each n f) (f n) (λ z. q (g ∙ z))))
-      (eq-or-lt-of-le (le-of-suc-le-suc l))
+  scan-found (suc n) i l c e q = elim (below-suc l) [
+    | inl d ↦ rw (← d) (e ∙ sym (clear-skip (each i f) (f i) c))
+    | inr m ↦ let g = scan-found n i m c e q in g ∙ sym (found-stop (each n f) (f n) (λ z. q (g ∙ z)))
+  ]
 
   pub scan-done : (n i : ℕ) → i ≡ n → Clear (each i f) → 0 ≡ firstOf (each n f)
   scan-done n i e c = rw (← e) (sym (clear-none (each i f) c))

@@ -4,13 +4,16 @@
 use Prim.Native.Nat.{ℕ, zero, suc, _<_}
 use mathlib.Core.Path.{_≡_, refl, sym}
 use mathlib.Core.Bool.{Bool, true, false, cond, not, _&&_, true≢false}
-use mathlib.Core.Logic.{_⊎_, inl, inr, ⊎-elim, _↔_}
+use mathlib.Core.Logic.{_⊎_, inl, inr, ⊎-elim, _↔_, Iff·rfl}
 use mathlib.Core.List.{List, [], _∷_, _++_}
 use native.Mathlib.Nat.{le-refl, eq-or-lt-of-le, le-of-suc-le-suc}
 use native.Mathlib.Omega.{arith}
 use Rattle.meaning.specs.Run.{each}
 use Rattle.meaning.specs.Rule.{ruleAt, placed, holds}
 use Rattle.meaning.specs.Judge.{Verdict, failsAt, failures, firstFailure, verdict, HoldsAt, AllHold, FirstFailure}
+use Rattle.meaning.proofs.Fails.{and-holds, not-holds}
+use Rattle.meaning.proofs.Bounds.{below-suc}
+use Rattle.meaning.proofs.Runs.{All, all-each}
 
 -- ---- lists end to end
 -- The list has a first element, and it is x.
@@ -19,9 +22,9 @@ Starts [] x = ⊥
 Starts (y ∷ ys) x = y ≡ x
 
 module _ {T : Type 0} where
-  append-empty : (xs ys : List T) → (xs ++ ys ≡ []) ↔ ((xs ≡ []) × (ys ≡ []))
-  append-empty [] ys = (λ e. (refl, e), λ p. p .1)
-  append-empty (x ∷ xs) ys = (λ e. absurd (true≢false cc), λ p. absurd (true≢false cc))
+  empty-all : (xs : List T) → (xs ≡ []) ↔ All (λ x. ⊥) xs
+  empty-all [] = (λ e. tt, λ h. refl)
+  empty-all (x ∷ xs) = (λ e. absurd (true≢false cc), λ h. absurd (h .0))
 
   append-starts : (xs ys : List T) (x : T) → Starts (xs ++ ys) x ↔ (Starts xs x ⊎ ((xs ≡ []) × Starts ys x))
   append-starts [] ys x = (λ s. inr (refl, s), ⊎-elim (λ s. absurd s) (λ p. p .1))
@@ -36,30 +39,21 @@ module _ {T : Type 0} (f : ℕ → List T) where
 
   -- End to end they are empty where each is.
   pub each-empty : (n : ℕ) → (each n f ≡ []) ↔ ((i : ℕ) → i < n → f i ≡ [])
-  unfolding each
-  each-empty zero = (λ e i l. absurd (omega arith), λ h. refl)
-  each-empty (suc n) = (
-    λ e i l.
-        let (b, d) = append-empty (each n f) (f n) .0 e in
-        ⊎-elim (λ (p : i ≡ n). rw p d) (λ m. each-empty n .0 b i m) (eq-or-lt-of-le (le-of-suc-le-suc l)),
-    λ h. append-empty (each n f) (f n) .1 (each-empty n .1 (λ i l. h i (omega arith)), h n (le-refl _)),
-  )
+  each-empty n = simp empty-all (all-each (λ x. ⊥) f n)
 
   -- End to end they start with what the first one that is not empty starts with.
   pub each-starts : (n : ℕ) (x : T) → Starts (each n f) x ↔ ((i : ℕ) × Leads n x i)
   unfolding each
   each-starts zero x = (λ s. absurd s, λ h. absurd (omega (arith, h .1 .among)))
   each-starts (suc n) x = (
-    λ s. ⊎-elim
-        (λ b.
-        let (i, c) = each-starts n x .0 b in
-        (i, record { among = omega arith; before = c .before; starts = c .starts }))
-        (λ p. (n, record { among = le-refl _; before = each-empty n .0 (p .0); starts = p .1 }))
-        (append-starts (each n f) (f n) x .0 s),
-    λ (i, c). append-starts (each n f) (f n) x .1 (⊎-elim
-        (λ (p : i ≡ n). inr (each-empty n .1 (rw (← p) (c .before)), rw (← p) (c .starts)))
-        (λ m. inl (each-starts n x .1 (i, record { among = m; before = c .before; starts = c .starts })))
-        (eq-or-lt-of-le (le-of-suc-le-suc (c .among)))),
+    λ s. elim (append-starts (each n f) (f n) x .0 s) [
+      | inl b ↦ let (i, c) = each-starts n x .0 b in (i, record { among = omega arith; before = c .before; starts = c .starts })
+      | inr p ↦ (n, record { among = le-refl _; before = each-empty n .0 (p .0); starts = p .1 })
+    ],
+    λ (i, c). append-starts (each n f) (f n) x .1 (elim (below-suc (c .among)) [
+      | inl p ↦ inr (each-empty n .1 (rw (← p) (c .before)), rw (← p) (c .starts))
+      | inr m ↦ inl (each-starts n x .1 (i, record { among = m; before = c .before; starts = c .starts }))
+    ]),
   )
 
 -- ---- a list of one element or none
@@ -101,12 +95,7 @@ module _ (ws : List ℕ) (L : ℕ) (cell : ℕ → ℕ → ℕ) where
       → (failsAt L cell (ruleAt ws i) k ≡ true)
       ↔ ((placed L (ruleAt ws i .place) k ≡ true) × (holds cell (ruleAt ws i) k ≡ false))
   unfolding failsAt
-  fails-there i k = go (placed L (ruleAt ws i .place) k) (holds cell (ruleAt ws i) k)
-    where
-      go : (p h : Bool) → ((p && not h) ≡ true) ↔ ((p ≡ true) × (h ≡ false))
-      go true true = (λ e. (refl, sym e), λ p. sym (p .1))
-      go true false = (λ e. (refl, refl), λ p. refl)
-      go false h = (λ e. absurd (true≢false cc), λ p. p .0)
+  fails-there i k = simp (and-holds, not-holds) Iff·rfl
 
   -- ---- all rules at all instants
   -- The failures of rule i; there are none where it holds at all its instants.

@@ -3,7 +3,7 @@
 use Prim.Native.Nat.{ℕ, zero, suc, _+_, _*_, _-_, _<_}
 use mathlib.Core.Path.{_≡_, refl, _∙_}
 use mathlib.Core.List.{List, [], _∷_, _++_}
-use mathlib.Core.Logic.{inl, inr}
+use mathlib.Core.Logic.{inl, inr, _↔_}
 use native.Mathlib.Nat.{le-refl, mul-le-mul-left}
 use native.Mathlib.Numerals.{add-one}
 use native.Mathlib.Omega.{arith}
@@ -16,6 +16,23 @@ use Rattle.meaning.proofs.Bounds.{le-or-lt, all-suc}
 pub each-more : {T : Type 0} (f : ℕ → List T) (n : ℕ) → each (n + 1) f ≡ each n f ++ f n
 unfolding each
 each-more f n = rw add-one
+
+-- ---- every member
+abbrev pub All : {T : Type 0} → (T → Type 0) → List T → Type 0
+All P [] = Unit {0}
+All P (x ∷ xs) = P x × All P xs
+
+module _ {T : Type 0} (P : T → Type 0) where
+  -- Of two lists end to end, and of many.
+  pub all-append : (xs ys : List T) → All P (xs ++ ys) ↔ (All P xs × All P ys)
+  all-append [] ys = (λ h. (tt, h), λ h. h .1)
+  all-append (x ∷ xs) ys = simp (all-append xs ys) (λ (a, (b, c)). ((a, b), c), λ ((a, b), c). (a, (b, c)))
+
+  pub all-each : (f : ℕ → List T) (n : ℕ) → All P (each n f) ↔ ((i : ℕ) → i < n → All P (f i))
+  unfolding each
+  all-each f zero = (λ _ i l. absurd (omega arith), λ _. tt)
+  all-each f (suc n) =
+      simp (all-append, all-each f n) (λ (a, b). all-suc (λ i. All P (f i)) n a b, λ h. (λ i l. h i (omega arith), h n (le-refl _)))
 
 -- ---- parts of one length
 module _ {T : Type 0} (w : ℕ) (f : ℕ → List T) (sized : (k : ℕ) → length (f k) ≡ w) where

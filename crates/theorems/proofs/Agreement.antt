@@ -31,8 +31,8 @@ use Rattle.theorems.specs.Filling.{Filling, others, Meets}
 use Rattle.theorems.specs.Demand3.{Accepted, OneFilling}
 use Rattle.theorems.specs.Why.{Agreement}
 use Rattle.theorems.proofs.Shaped.{shapes}
-use Rattle.theorems.proofs.Every.{every-word, every-append}
-use Rattle.theorems.proofs.Keeping.{all-hold, append-kept}
+use Rattle.theorems.proofs.Keeping.{every-word, all-hold, append-kept}
+use Rattle.meaning.proofs.Runs.{all-append}
 use Rattle.theorems.proofs.InForm.{Formed, narrow, translation-formed}
 
 -- ---- grounds that do not apply
@@ -80,7 +80,7 @@ module _ (s : List ℕ) {A L : ℕ} {cells f : List ℕ} (accepted : Accepted s 
   takes-others =
       let ρs = each (count s) (rulesAt s A) in
       let n : length (translation s A) ≡ length ρs + 1 = length-append ρs (asserted s A ∷ []) in
-      takes ρs (omega (arith, few-rules s A, formed .few)) (every-append _ ρs _ .0 all-formed .0)
+      takes ρs (omega (arith, few-rules s A, formed .few)) (all-append _ ρs _ .0 all-formed .0)
 
 -- ---- values
 module _ {s : List ℕ} {A L : ℕ} {cells : List ℕ} (accepted : Accepted s A) (trace : Trace A L cells)

@@ -15,11 +15,11 @@ use Rattle.meaning.specs.Translation.{asserted, translation}
 use Rattle.meaning.specs.Refusal.{mostColumns, badLiteral, badRule}
 use Rattle.meaning.specs.WellFormed.{WellFormed}
 use Rattle.theorems.proofs.Shape.{modeAt, contAt, Shape}
-use Rattle.theorems.proofs.Every.{Every, every-append, every-each}
+use Rattle.meaning.proofs.Runs.{All, all-append, all-each}
 
 -- Every rule of a list is in form, over W columns.
 abbrev pub Formed : ℕ → List Rule → Type 0
-Formed W = Every (λ ρ. badRule W ρ ≡ false)
+Formed W = All (λ ρ. badRule W ρ ≡ false)
 
 module _ (W : ℕ) (few : W ≤ mostColumns) where
   -- ---- literals
@@ -125,7 +125,7 @@ module _ {s : List ℕ} {A : ℕ} (w : WellFormed core s A) where
     -- All rules.
     pub translation-formed : ((r : ℕ) → r < count s → Shape s L cell (kindAt s r) r) → Formed W (translation s A)
     unfolding translation rulesAt
-    translation-formed shape = simp (every-append, every-each) (
+    translation-formed shape = simp (all-append, all-each) (
       λ r l. kind-formed r l (kindAt s r) refl (shape r l),
       asserted-formed W narrow s A (labelled (omega (arith, w .some))),
     )

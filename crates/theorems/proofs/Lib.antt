@@ -2,7 +2,6 @@
 pub mod Shape
 pub mod Cleared
 pub mod Shaped
-pub mod Every
 pub mod Keeping
 pub mod Saying
 pub mod Labelled
