@@ -10,7 +10,7 @@ use lib.ListN.{length}
 use Rattle.meaning.specs.Run.{each}
 use Rattle.meaning.specs.Record.{Language, core, recordSize, mostRecords, count, kindAt, zeroByte, fieldA, fieldB, known}
 use Rattle.meaning.specs.Record.{Use, unused, atomNumber, child, useA, useB}
-use Rattle.meaning.specs.Refusal.{Ground, firstOf, recordGrounds, treeGrounds, starGrounds, formulaGrounds, checkGrounds, starredGrounds, stray, late, beyond, misfit}
+use Rattle.meaning.specs.Refusal.{firstOf, recordGrounds, treeGrounds, starGrounds, formulaGrounds, checkGrounds, starredGrounds, stray, late, beyond, misfit}
 use Rattle.meaning.specs.Refusal.{ground1, ground2, ground3, ground4, ground5, ground6, ground6-last, ground7, ground8, ground11, ground12}
 use Rattle.meaning.specs.WellFormed.{Fits, WellFormed}
 use Rattle.meaning.specs.Service.{checkAnswer}

@@ -7,7 +7,7 @@ use mathlib.Core.List.{List}
 use native.Mathlib.Omega.{arith}
 use lib.ListN.{length}
 use lib.Dec.{leb, ltb, eqb}
-use borrow.Author.Tests.{ltb-true, lt-ltb, leb-true, le-leb, not-true}
+use borrow.Author.Tests.{ltb-true, lt-ltb, leb-true, le-leb}
 use Rattle.meaning.specs.Record.{Language, known, recordSize, mostRecords, count, zeroByte, fieldA, kindAt}
 use Rattle.meaning.specs.Record.{Kind, star}
 use Rattle.meaning.specs.Record.{Sort, formula, path, sortOf, Use, unused, atomNumber, child, places, ahead, back}
