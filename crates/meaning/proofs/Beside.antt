@@ -22,27 +22,19 @@ shifted back L f k else = before f k else
 pub move-row : (L : ℕ) (w : Way) (m : Mode) (c : Row) → ((j : ℕ) → j < L → c j ≤ 2) → (k : ℕ) → k < L
     → modalRow m L (moveSquare w) c k ≡ shifted w L c k (edge m)
 unfolding Beside
-move-row L ahead m c low k l = go (ltb (k + 1) L) refl
-  where
-    go : (b : Bool) → ltb (k + 1) L ≡ b → modalRow m L (moveSquare ahead) c k ≡ cond b (c (k + 1)) (edge m)
-    go true e = let h = ltb-true (k + 1) L e in modal-move m L ahead c k (k + 1) h (low _ h) refl
-    go false e = let h = ltb-false (k + 1) L e in modal-edge m L ahead c k (λ j a b. omega arith)
-move-row L back m c low k l = go (ltb 0 k) refl
-  where
-    go : (b : Bool) → ltb 0 k ≡ b → modalRow m L (moveSquare back) c k ≡ cond b (c (pred k)) (edge m)
-    go true e =
-        let h = ltb-true 0 k e in
-        modal-move m L back c k (pred k) (omega arith) (low _ (omega arith)) (omega arith)
-    go false e = let h = ltb-false 0 k e in modal-edge m L back c k (λ j a b. omega arith)
+move-row L ahead m c low k l = elim (le-or-lt L (k + 1)) [
+  | inl h ↦ rw (le-ltb (k + 1) L h) (modal-edge m L ahead c k (λ j a b. omega arith))
+  | inr h ↦ rw (lt-ltb (k + 1) L h) (modal-move m L ahead c k (k + 1) h (low _ h) refl)
+]
+move-row L back m c low k l = elim (le-or-lt k 0) [
+  | inl h ↦ rw (le-ltb 0 k h) (modal-edge m L back c k (λ j a b. omega arith))
+  | inr h ↦ rw (lt-ltb 0 k h) (modal-move m L back c k (pred k) (omega arith) (low _ (omega arith)) (omega arith))
+]
 
 -- ---- where the two cases are one
 -- A row that has the edge's value past the last instant needs no test,
 pub after-all : (L : ℕ) (x : Row) (k e : ℕ) → (L ≤ k + 1 → x (k + 1) ≡ e) → after L x k e ≡ x (k + 1)
-after-all L x k e h = go (ltb (k + 1) L) refl
-  where
-    go : (b : Bool) → ltb (k + 1) L ≡ b → cond b (x (k + 1)) e ≡ x (k + 1)
-    go true _ = refl
-    go false d = sym (h (ltb-false (k + 1) L d))
+after-all L x k e h = elim (le-or-lt L (k + 1)) [ inl d ↦ rw (le-ltb (k + 1) L d) (sym (h d)) | inr d ↦ rw (lt-ltb (k + 1) L d) ]
 
 -- nor one that is another, an instant later, with that value at the first.
 pub before-all : (x y : Row) (k e : ℕ) → ((i : ℕ) → i + 1 ≡ k → x i ≡ y k) → y 0 ≡ e → before x k e ≡ y k

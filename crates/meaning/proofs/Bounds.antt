@@ -2,6 +2,7 @@
 -- each, and no value that is at most each is above it. By induction on n: a number below suc n is n, or is below n.
 use Prim.Native.Nat.{ℕ, zero, suc, _+_, _≤_, _<_, zero-le, min, max}
 use mathlib.Core.Path.{_≡_, refl, subst⁻¹}
+use mathlib.Core.Bool.{Bool, true, false, cond}
 use mathlib.Core.Logic.{_⊎_, inl, inr}
 use native.Mathlib.Nat.{le-refl, eq-or-lt-of-le, le-of-suc-le-suc}
 use native.Mathlib.Decide.{decLe}
@@ -13,6 +14,11 @@ use Rattle.meaning.specs.Three.{greatest, least}
 -- Of two numbers, the first is at most the second or above it.
 pub le-or-lt : (a b : ℕ) → (a ≤ b) ⊎ (b < a)
 le-or-lt a b = elim (decLe a b) [ yes h ↦ inl h | no h ↦ inr (omega arith) ]
+
+-- One of two numbers, by a test, is at most what both are.
+pub cond-within : (b : Bool) {x y n : ℕ} → x ≤ n → y ≤ n → cond b x y ≤ n
+cond-within true h i = h
+cond-within false h i = i
 
 -- A number below suc n is n, or is below n.
 pub below-suc : {j n : ℕ} → j < suc n → (j ≡ n) ⊎ (j < n)

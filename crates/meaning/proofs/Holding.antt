@@ -9,6 +9,7 @@ use native.Mathlib.Omega.{arith}
 use lib.Dec.{eqb}
 use Rattle.meaning.specs.Three.{negation}
 use Rattle.meaning.specs.Rule.{Rule, symbolOf, isNegated, symbolValue, plain, literal, bodyValue, headValue, holds}
+use Rattle.meaning.proofs.Bounds.{cond-within}
 use Rattle.meaning.proofs.Fails.{eqb-holds}
 use Rattle.meaning.proofs.Implication.{imp-is-two}
 
@@ -23,20 +24,12 @@ module _ (cell : ℕ → ℕ → ℕ) (low : (k i : ℕ) → cell k i ≤ 2) whe
   -- So has a negation.
   negation-low : (u : ℕ) → negation u ≤ 2
   unfolding negation
-  negation-low u = go (eqb u 0)
-    where
-      go : (b : Bool) → cond b 2 0 ≤ 2
-      go true = le-refl 2
-      go false = zero-le
+  negation-low u = cond-within (eqb u 0) (le-refl 2) zero-le
 
   -- So has a literal.
   pub literal-low : (w k : ℕ) → literal cell w k ≤ 2
   unfolding literal plain
-  literal-low w k = go (isNegated w)
-    where
-      go : (b : Bool) → cond b (negation (plain cell w k)) (plain cell w k) ≤ 2
-      go true = negation-low (plain cell w k)
-      go false = symbol-low (symbolOf w) _
+  literal-low w k = cond-within (isNegated w) (negation-low (plain cell w k)) (symbol-low (symbolOf w) _)
 
   -- When a rule holds.
   pub rule-holds : (ρ : Rule) (k : ℕ) → (holds cell ρ k ≡ true) ↔ (bodyValue cell ρ k ≤ headValue cell ρ k)

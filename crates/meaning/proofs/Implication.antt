@@ -6,17 +6,14 @@ use mathlib.Core.Logic.{_↔_, _⊎_, inl, inr}
 use mathlib.Core.Bool.{Bool, true, false, cond}
 use native.Mathlib.Omega.{arith}
 use lib.Dec.{leb}
-use borrow.Author.Tests.{leb-true, leb-false, ne-eqb}
+use borrow.Author.Tests.{le-leb, lt-leb, ne-eqb}
 use Rattle.meaning.specs.Three.{imp, negation}
+use Rattle.meaning.proofs.Bounds.{le-or-lt}
 
 -- An implication by comparing its two sides.
 pub by-comparison : (u v : ℕ) → ((u ≤ v) × (imp u v ≡ 2)) ⊎ ((v < u) × (imp u v ≡ v))
 unfolding imp
-by-comparison u v = go (leb u v) refl
-  where
-    go : (b : Bool) → leb u v ≡ b → ((u ≤ v) × (cond b 2 v ≡ 2)) ⊎ ((v < u) × (cond b 2 v ≡ v))
-    go true e = inl (leb-true u v e, refl)
-    go false e = inr (leb-false u v e, refl)
+by-comparison u v = elim (le-or-lt u v) [ inl l ↦ inl (l, rw (le-leb u v l)) | inr l ↦ inr (l, rw (lt-leb u v l)) ]
 
 -- From t at most the implication, and the premise, the conclusion.
 pub imp-elim : (t u v : ℕ) → t ≤ imp u v → min t u ≤ v

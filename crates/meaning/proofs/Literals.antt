@@ -1,39 +1,30 @@
 -- What a literal is worth, by its marks: the marks are two binary digits above those of the symbol.
-use Prim.Native.Nat.{ℕ, suc, pred, _+_, _/_, _%_, _<_}
+use Prim.Native.Nat.{ℕ, suc, pred, _+_, _*_, _/_, _%_, _<_}
 use mathlib.Core.Path.{_≡_}
 use native.Mathlib.Omega.{arith}
 use Rattle.meaning.specs.Three.{negation}
 use Rattle.meaning.specs.Rule.{previously, negated, symbolValue, plain, literal}
 use Rattle.meaning.specs.Translation.{atomSymbol}
 
--- ---- marks
+-- A symbol x with the marks d, read back.
+pub marks : (w x d : ℕ) → x < 16_384 → w ≡ x + 16_384 * d → (w % 16_384 ≡ x) × (w / 16_384 ≡ d) × (w / 32_768 ≡ d / 2)
+marks w x d l e = (omega arith, omega arith, omega arith)
+
 module _ (cell : ℕ → ℕ → ℕ) where
   -- A symbol without marks.
   literal-plain : (x k : ℕ) → x < 16_384 → literal cell x k ≡ symbolValue cell x k
   unfolding literal plain
-  literal-plain x k h =
-      let e : x % 16_384 ≡ x = omega arith in
-      let p : x / 16_384 ≡ 0 = omega arith in
-      let n : x / 32_768 ≡ 0 = omega arith in
-      rw (p, n, e)
+  literal-plain x k h = let (e, p, n) = marks x x 0 h (omega arith) in rw (p, n, e)
 
   -- With the mark for the previous instant.
   pub literal-previous : (x k : ℕ) → x < 16_384 → literal cell (previously x) k ≡ literal cell x (pred k)
   unfolding literal plain
-  literal-previous x k h =
-      let e : (x + 16_384) % 16_384 ≡ x = omega arith in
-      let p : (x + 16_384) / 16_384 ≡ 1 = omega arith in
-      let n : (x + 16_384) / 32_768 ≡ 0 = omega arith in
-      rw (p, n, e, literal-plain x (pred k))
+  literal-previous x k h = let (e, p, n) = marks (previously x) x 1 h (omega arith) in rw (p, n, e, literal-plain x (pred k))
 
   -- With the mark for negation.
   pub literal-negated : (x k : ℕ) → x < 16_384 → literal cell (negated x) k ≡ negation (literal cell x k)
   unfolding literal plain
-  literal-negated x k h =
-      let e : (x + 32_768) % 16_384 ≡ x = omega arith in
-      let p : (x + 32_768) / 16_384 ≡ 2 = omega arith in
-      let n : (x + 32_768) / 32_768 ≡ 1 = omega arith in
-      rw (p, n, e, literal-plain x k)
+  literal-negated x k h = let (e, p, n) = marks (negated x) x 2 h (omega arith) in rw (p, n, e, literal-plain x k)
 
   -- The symbols of false and true.
   pub literal-false : (k : ℕ) → literal cell 0 k ≡ 0

@@ -59,10 +59,7 @@ module _ (s : List ℕ) (A L : ℕ) (cells out : List ℕ) (taken : valueAnswer 
   cell-low : (i : ℕ) → getD cells i 0 ≤ 2
   cell-low i = elim (le-or-lt (length cells) i) [
     | inl h ↦ rw (List·getD-eq-default cells 0 h) zero-le
-    | inr h ↦ elim (le-or-lt (getD cells i 0) 2) [
-      | inl l ↦ l
-      | inr l ↦ absurd (no-reason (wrongCell i) (inr (inl (i, h, (refl, l)))))
-    ]
+    | inr h ↦ let n : ¬ (2 < getD cells i 0) = λ l. no-reason (wrongCell i) (inr (inl (i, h, (refl, l)))) in omega arith
   ]
 
   -- Row r of what is left.
@@ -82,19 +79,13 @@ module _ (s : List ℕ) (A L : ℕ) (cells out : List ℕ) (taken : valueAnswer 
 
   -- There is an instant and a record, and the last is a formula.
   some-instant : 0 < L
-  some-instant = elim (le-or-lt L 0) [
-    | inl h ↦ absurd (no-reason wrongSize (inl (inr (inl (refl, inr (inl (omega arith)))))))
-    | inr h ↦ h
-  ]
+  some-instant = let n : ¬ (L ≡ 0) = λ e. no-reason wrongSize (inl (inr (inl (refl, inr (inl e))))) in omega arith
 
   some-record : 0 < count s
-  some-record = elim (ℕ-discrete (length s % recordSize) 0) [
-    | yes e ↦ elim (le-or-lt (length s) 0) [
-      | inl h ↦ absurd (no-reason wrongLength (inl (inl (refl, inl (omega arith)))))
-      | inr h ↦ omega arith
-    ]
-    | no n ↦ absurd (no-reason wrongLength (inl (inl (refl, inr (inl n)))))
-  ]
+  some-record =
+      let n : ¬ (length s ≡ 0) = λ e. no-reason wrongLength (inl (inl (refl, inl e))) in
+      let d : ¬ (0 < length s % recordSize) = λ e. no-reason wrongLength (inl (inl (refl, inr (inl (omega arith))))) in
+      omega arith
 
   last-formula : sortOf (kindAt s (pred (count s))) ≡ formula
   last-formula = elim (either-sort (sortOf (kindAt s (pred (count s))))) [

@@ -4,21 +4,18 @@ use Prim.Native.Nat.{ℕ, _+_, _≤_, _<_, min, zero-le}
 use mathlib.Core.Path.{_≡_, refl}
 use mathlib.Core.Bool.{Bool, true, false, cond}
 use native.Mathlib.Nat.{le-refl, le-trans, le-min}
+use native.Mathlib.Decide.{ℕ-discrete}
 use native.Mathlib.Omega.{arith}
 use lib.Dec.{eqb}
-use borrow.Author.Tests.{eqb-true, eq-eqb}
+use borrow.Author.Tests.{eq-eqb, ne-eqb}
 use Rattle.meaning.specs.Record.{Way, ahead, back}
 use Rattle.meaning.specs.Value.{Square, moveSquare, sequenceSquare}
-use Rattle.meaning.proofs.Bounds.{greatest-member, greatest-reached}
+use Rattle.meaning.proofs.Bounds.{cond-within, greatest-member, greatest-reached}
 
 -- ---- a value at one place, and 0 elsewhere
 -- What is above 0 is at that place.
 pub only-there : (i j v : ℕ) → 0 < cond (eqb i j) v 0 → i ≡ j
-only-there i j v = go (eqb i j) refl
-  where
-    go : (b : Bool) → eqb i j ≡ b → 0 < cond b v 0 → i ≡ j
-    go true e z = eqb-true i j e
-    go false e z = absurd (omega arith)
+only-there i j v z = elim (ℕ-discrete i j) [ yes e ↦ e | no d ↦ absurd (omega (arith, rw (ne-eqb i j d) at z)) ]
 
 -- At that place it is the value.
 pub value-there : (i j v : ℕ) → i ≡ j → cond (eqb i j) v 0 ≡ v
@@ -26,11 +23,7 @@ value-there i j v e = rw (eq-eqb i j e)
 
 -- It is at most the value.
 pub there-bound : (i j v : ℕ) → cond (eqb i j) v 0 ≤ v
-there-bound i j v = go (eqb i j)
-  where
-    go : (b : Bool) → cond b v 0 ≤ v
-    go true = le-refl v
-    go false = zero-le
+there-bound i j v = cond-within (eqb i j) (le-refl v) zero-le
 
 -- ---- moves
 -- In the way w, j is the instant beside k.

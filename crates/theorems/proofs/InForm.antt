@@ -15,6 +15,7 @@ use Rattle.meaning.specs.Translation.{asserted, translation}
 use Rattle.meaning.specs.Refusal.{mostColumns, badLiteral, badRule}
 use Rattle.meaning.specs.WellFormed.{WellFormed}
 use Rattle.theorems.proofs.Shape.{modeAt, contAt, Shape}
+use Rattle.meaning.proofs.Literals.{marks}
 use Rattle.meaning.proofs.Runs.{All, all-append, all-each}
 
 -- Every rule of a list is in form, over W columns.
@@ -26,26 +27,17 @@ module _ (W : ℕ) (few : W ≤ mostColumns) where
   -- A symbol without marks.
   plain-formed : (p x : ℕ) → x < 2 + W → badLiteral W p x ≡ false
   unfolding badLiteral
-  plain-formed p x l =
-      let e : x % 16_384 ≡ x = omega arith in
-      let q : x / 16_384 ≡ 0 = omega arith in
-      rw (e, q, lt-leb (2 + W) x l)
+  plain-formed p x l = let (e, q, _) = marks x x 0 (omega arith) (omega arith) in rw (e, q, lt-leb (2 + W) x l)
 
   -- With the mark for negation.
   negated-formed : (p x : ℕ) → x < 2 + W → badLiteral W p (negated x) ≡ false
   unfolding badLiteral
-  negated-formed p x l =
-      let e : (x + 32_768) % 16_384 ≡ x = omega arith in
-      let q : (x + 32_768) / 16_384 ≡ 2 = omega arith in
-      rw (e, q, lt-leb (2 + W) x l)
+  negated-formed p x l = let (e, q, _) = marks (negated x) x 2 (omega arith) (omega arith) in rw (e, q, lt-leb (2 + W) x l)
 
   -- With the mark for the previous instant, at all instants but the first.
   previous-formed : (x : ℕ) → x < 2 + W → badLiteral W 2 (previously x) ≡ false
   unfolding badLiteral
-  previous-formed x l =
-      let e : (x + 16_384) % 16_384 ≡ x = omega arith in
-      let q : (x + 16_384) / 16_384 ≡ 1 = omega arith in
-      rw (e, q, lt-leb (2 + W) x l)
+  previous-formed x l = let (e, q, _) = marks (previously x) x 1 (omega arith) (omega arith) in rw (e, q, lt-leb (2 + W) x l)
 
   -- The symbols of false and true.
   false-formed : (p : ℕ) → badLiteral W p 0 ≡ false
@@ -66,23 +58,19 @@ module _ (W : ℕ) (few : W ≤ mostColumns) where
     -- Move.
     move-formed : (w : Way) (m : Mode) → Formed W (moveRules w m x u)
     unfolding moveRules edgeRule badRule
-    move-formed ahead diamond = simp literals (refl, (refl, (refl, tt)))
-    move-formed ahead box = simp literals (refl, (refl, (refl, tt)))
-    move-formed back diamond = simp literals (refl, (refl, (refl, tt)))
-    move-formed back box = simp literals (refl, (refl, (refl, tt)))
+    move-formed ahead = elim [ diamond ↦ simp literals (refl, (refl, (refl, tt))) | box ↦ simp literals (refl, (refl, (refl, tt))) ]
+    move-formed back = elim [ diamond ↦ simp literals (refl, (refl, (refl, tt))) | box ↦ simp literals (refl, (refl, (refl, tt))) ]
 
     module _ (v : ℕ) (vl : v < 2 + W) where
       -- Choice and star.
       join-formed : (m : Mode) → Formed W (joinRules m x u v)
       unfolding joinRules badRule
-      join-formed diamond = simp literals (refl, (refl, (refl, tt)))
-      join-formed box = simp literals (refl, (refl, (refl, tt)))
+      join-formed = elim [ diamond ↦ simp literals (refl, (refl, (refl, tt))) | box ↦ simp literals (refl, (refl, (refl, tt))) ]
 
       -- Test.
       test-formed : (m : Mode) → Formed W (testRules m x u v)
       unfolding testRules badRule
-      test-formed diamond = simp literals (refl, (refl, (refl, tt)))
-      test-formed box = simp literals (refl, (refl, (refl, (refl, tt))))
+      test-formed = elim [ diamond ↦ simp literals (refl, (refl, (refl, tt))) | box ↦ simp literals (refl, (refl, (refl, (refl, tt)))) ]
 
   -- The rule that asserts the whole formula.
   asserted-formed : (s : List ℕ) (A : ℕ) → label A (pred (count s)) < 2 + W → Formed W (asserted s A ∷ [])

@@ -19,7 +19,7 @@ use Rattle.meaning.specs.Rule.{words, placed}
 use Rattle.meaning.specs.Translation.{label, edgeRule, rulesAt, asserted, translation}
 use Rattle.meaning.specs.Judge.{AllHold}
 use Rattle.meaning.specs.WellFormed.{WellFormed, Trace}
-use Rattle.meaning.proofs.Bounds.{le-or-lt}
+use Rattle.meaning.proofs.Bounds.{le-or-lt, cond-within}
 use Rattle.meaning.proofs.Runs.{length-each, getD-each, length-tabulate, getD-tabulate, row-place}
 use Rattle.meaning.proofs.Within.{edge}
 use Rattle.theorems.specs.Filling.{Filling, labelOf, Meets}
@@ -120,11 +120,7 @@ module _ {s : List ℕ} {A L : ℕ} {cells : List ℕ} (w : WellFormed core s A)
   -- They are values.
   fill-low : (k i : ℕ) → k < L → fill k i ≤ 2
   unfolding fill
-  fill-low k i l = go (ltb i A)
-    where
-      go : (b : Bool) → cond b (cellOf A cells k i) (right (i - A) k) ≤ 2
-      go true = trace .low _
-      go false = solution-low s L (cellOf A cells) (λ k i _. trace .low _) (i - A) k l
+  fill-low k i l = cond-within (ltb i A) (trace .low _) (solution-low s L (cellOf A cells) (λ k i _. trace .low _) (i - A) k l)
 
   filled-low : (i : ℕ) → getD filled i 0 ≤ 2
   filled-low i = elim (le-or-lt (length filled) i) [
