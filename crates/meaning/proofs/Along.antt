@@ -18,8 +18,7 @@ use Rattle.meaning.proofs.Beside.{move-row, after-all, before-all}
 -- A move's own way is not the other.
 turned : (w : Way) → sameWay (other w) w ≡ false
 unfolding sameWay other
-turned ahead = refl
-turned back = refl
+turned w = elim w [ ahead ↦ refl | back ↦ refl ]
 
 -- The instants from k on: k .. L - 1 ahead, 0 .. k back.
 unfoldable pub stretch : Way → Mode → ℕ → Row → Row

@@ -14,8 +14,7 @@ use Rattle.meaning.proofs.Within.{joined, gate, edge, within-less, with
 -- A modality over values has a value.
 pub modal-bound : (m : Mode) (L : ℕ) (p : Square) (c : Row) (k : ℕ) → ((j : ℕ) → j < L → c j ≤ 2) → modalRow m L p c k ≤ 2
 unfolding modalRow diamondRow boxRow
-modal-bound diamond L p c k b = greatest-within L _ 2 (λ j l. omega (arith, b j l))
-modal-bound box L p c k b = least-bound L _
+modal-bound m L p c k b = elim m [ diamond ↦ greatest-within L _ 2 (λ j l. omega (arith, b j l)) | box ↦ least-bound L _ ]
 
 module _ (m : Mode) (L : ℕ) where
   -- Only the instants that the path leads to count.

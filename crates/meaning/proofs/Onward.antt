@@ -20,8 +20,7 @@ use Rattle.meaning.proofs.Modality.{modal-bound}
 -- A move has a value.
 pub move-bound : (w : Way) (k j : ℕ) → moveSquare w k j ≤ 2
 unfolding moveSquare
-move-bound ahead k j = there-bound j (k + 1) 2
-move-bound back k j = there-bound (j + 1) k 2
+move-bound w k j = elim w [ ahead ↦ there-bound j (k + 1) 2 | back ↦ there-bound (j + 1) k 2 ]
 
 -- Any number of passes has a value.
 passes-bound : (L : ℕ) (p : Square) (n k j : ℕ) → passes L p n k j ≤ 2
@@ -68,14 +67,12 @@ Strictly w k j = Leads w 1 k j
 -- Standing still is along either way.
 leads-same : (w : Way) (k j : ℕ) → j ≡ k → Along w k j
 unfolding Leads
-leads-same ahead k j e = omega arith
-leads-same back k j e = omega arith
+leads-same w k j e = elim w [ ahead ↦ omega arith | back ↦ omega arith ]
 
 -- Two stretches add up.
 leads-add : (w : Way) (r s t k i j : ℕ) → r ≤ s + t → Leads w s k i → Leads w t i j → Leads w r k j
 unfolding Leads
-leads-add ahead r s t k i j l a b = omega arith
-leads-add back r s t k i j l a b = omega arith
+leads-add w r s t k i j l = elim w [ ahead ↦ omega arith | back ↦ omega arith ]
 
 -- At least s is at least what is less.
 leads-less : (w : Way) (r s k j : ℕ) → r ≤ s → Leads w s k j → Leads w r k j
@@ -96,17 +93,13 @@ pace b = cond b 0 1
 -- A choice, no farther than either arm.
 pace-or : (a b : Bool) → (pace (a || b) ≤ pace a) × (pace (a || b) ≤ pace b)
 unfolding pace
-pace-or true b = (zero-le, zero-le)
-pace-or false true = (zero-le, zero-le)
-pace-or false false = (le-refl 1, le-refl 1)
+pace-or a b = elim a [ true ↦ omega arith | false ↦ elim b [ true ↦ omega arith | false ↦ omega arith ] ]
 
 -- A sequence, no farther than both parts together.
 pace-and : (a b : Bool) → pace (a && b) ≤ pace a + pace b
 unfolding pace
-pace-and true true = zero-le
-pace-and true false = le-refl 1
-pace-and false true = le-refl 1
-pace-and false false = omega arith
+pace-and a b =
+    elim a [ true ↦ elim b [ true ↦ omega arith | false ↦ omega arith ] | false ↦ elim b [ true ↦ omega arith | false ↦ omega arith ] ]
 
 module _ (L : ℕ) (cell : ℕ → ℕ → ℕ) (w : Way) where
   -- Passes lead along the way that one leads.

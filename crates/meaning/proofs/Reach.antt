@@ -34,20 +34,17 @@ Beside back k j = j + 1 ≡ k
 -- There is at most one such instant.
 pub beside-one : (w : Way) (k i j : ℕ) → Beside w k i → Beside w k j → j ≡ i
 unfolding Beside
-beside-one ahead k i j d e = omega arith
-beside-one back k i j d e = omega arith
+beside-one w k i j = elim w [ ahead ↦ omega arith | back ↦ omega arith ]
 
 -- A move leads there only.
 pub move-beside : (w : Way) (k j : ℕ) → 0 < moveSquare w k j → Beside w k j
 unfolding Beside moveSquare
-move-beside ahead k j = only-there j (k + 1) 2
-move-beside back k j = only-there (j + 1) k 2
+move-beside w k j = elim w [ ahead ↦ only-there j (k + 1) 2 | back ↦ only-there (j + 1) k 2 ]
 
 -- It leads there with the value 2.
 pub beside-move : (w : Way) (k j : ℕ) → Beside w k j → moveSquare w k j ≡ 2
 unfolding Beside moveSquare
-beside-move ahead k j = value-there j (k + 1) 2
-beside-move back k j = value-there (j + 1) k 2
+beside-move w k j = elim w [ ahead ↦ value-there j (k + 1) 2 | back ↦ value-there (j + 1) k 2 ]
 
 -- ---- sequences
 -- A value of a sequence comes by way of some instant.

@@ -20,8 +20,7 @@ distance back L k = k
 -- It falls along the way.
 distance-falls : (w : Way) (L k j : ℕ) → k < L → Strictly w k j → distance w L j < distance w L k
 unfolding distance Leads
-distance-falls ahead L k j l s = omega arith
-distance-falls back L k j l s = omega arith
+distance-falls w L k j l = elim w [ ahead ↦ omega arith | back ↦ omega arith ]
 
 -- The equation of the row x of a star with body p and continuation c.
 abbrev pub Solves : Mode → ℕ → Square → Row → Row → Type 0

@@ -21,25 +21,21 @@ overIn diamond = greatestIn
 overIn box = leastIn
 
 over-in : (m : Mode) (a b n : ℕ) (f : Row) → b - a ≡ n → overIn m a b f ≡ over m n (λ i. f (a + i))
-over-in diamond a b n f e = rw e
-over-in box a b n f e = rw e
+over-in m a b n f e = elim m [ diamond ↦ rw e | box ↦ rw e ]
 
 -- ---- the last member, and the first
 over-last : (m : Mode) (n : ℕ) (f : Row) → over m (suc n) f ≡ joined m (f n) (over m n f)
 unfolding greatest least joined
-over-last diamond n f = omega arith
-over-last box n f = omega arith
+over-last m n f = elim m [ diamond ↦ omega arith | box ↦ omega arith ]
 
 over-none : (m : Mode) (f : Row) → over m 0 f ≡ edge m
 unfolding greatest least edge
-over-none diamond f = refl
-over-none box f = refl
+over-none m f = elim m [ diamond ↦ refl | box ↦ refl ]
 
 -- A join in another order.
 joined-turned : (m : Mode) (u v w : ℕ) → joined m u (joined m v w) ≡ joined m v (joined m u w)
 unfolding joined
-joined-turned diamond u v w = omega arith
-joined-turned box u v w = omega arith
+joined-turned m u v w = elim m [ diamond ↦ omega arith | box ↦ omega arith ]
 
 over-first : (m : Mode) (n : ℕ) (f : Row) → over m (suc n) f ≡ joined m (f 0) (over m n (λ i. f (suc i)))
 over-first m zero f = over-last m zero f ∙ ap (joined m (f 0)) (over-none m f ∙ sym (over-none m _))
@@ -71,11 +67,8 @@ module _ (m : Mode) (a b : ℕ) (f : Row) where
 
   -- The greatest of values, or the least, is a value.
   pub stretch-bound : ((j : ℕ) → j < b → f j ≤ 2) → overIn m a b f ≤ 2
-  stretch-bound h = bound m
-    where
-      bound : (m : Mode) → overIn m a b f ≤ 2
-      bound diamond = greatest-within (b - a) _ 2 (λ i l. h (a + i) (omega arith))
-      bound box = least-bound (b - a) _
+  stretch-bound h =
+      elim m [ diamond ↦ greatest-within (b - a) _ 2 (λ i l. h (a + i) (omega arith)) | box ↦ least-bound (b - a) _ ]
 
 -- A test before each instant is one before all.
 greatest-gated : (u : ℕ) (n : ℕ) (f : Row) → greatest n (λ i. min u (f i)) ≡ min u (greatest n f)

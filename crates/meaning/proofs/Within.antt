@@ -35,16 +35,13 @@ Within box a x y = min a (min 2 y) ≤ x
 -- Up to less, less is asked.
 pub within-less : (m : Mode) (a b x y : ℕ) → b ≤ a → Within m a x y → Within m b x y
 unfolding Within
-within-less diamond a b x y l h = omega arith
-within-less box a b x y l h = omega arith
+within-less m a b x y l = elim m [ diamond ↦ omega arith | box ↦ omega arith ]
 
 -- Up to 0, nothing is asked.
 pub within-positive : (m : Mode) (a b x y : ℕ) → (0 < b → Within m (min a b) x y) → Within m (min a b) x y
 unfolding Within
-within-positive diamond a zero x y h = omega arith
-within-positive diamond a (suc b) x y h = h (omega arith)
-within-positive box a zero x y h = omega arith
-within-positive box a (suc b) x y h = h (omega arith)
+within-positive m a zero x y h = elim m [ diamond ↦ omega arith | box ↦ omega arith ]
+within-positive m a (suc b) x y h = h (omega arith)
 
 -- Up to the greater of two: up to both.
 pub within-max : (m : Mode) (a b d x y : ℕ) →
@@ -81,8 +78,7 @@ least-of-two t u v = (omega arith, omega arith)
 -- A join is within y if both are.
 pub within-joined : (m : Mode) (a u v y : ℕ) → Within m a (joined m u v) y ↔ (Within m a u y × Within m a v y)
 unfolding Within joined
-within-joined diamond a u v y = (omega arith, omega arith)
-within-joined box a u v y = least-of-two (min a (min 2 y)) u v
+within-joined m a u v y = elim m [ diamond ↦ omega arith | box ↦ least-of-two (min a (min 2 y)) u v ]
 
 -- A gate is within y if, up to its test, what is after it is.
 pub within-gate : (m : Mode) (a u v y : ℕ) → Within m a (gate m u v) y ↔ Within m (min a u) v y
@@ -93,8 +89,7 @@ within-gate box a u v y = (λ h. omega (arith, imp-elim _ u v h), λ h. imp-intr
 -- The edge is within everything.
 pub within-edge : (m : Mode) (a y : ℕ) → Within m a (edge m) y
 unfolding Within edge
-within-edge diamond a y = omega arith
-within-edge box a y = omega arith
+within-edge m a y = elim m [ diamond ↦ omega arith | box ↦ omega arith ]
 
 -- A row is within y if all its gates are.
 pub within-row : (m : Mode) (L : ℕ) (p : Square) (c : Row) (k a y : ℕ) →
@@ -126,23 +121,19 @@ same-within box x z b d h =
 -- Rows, joins, gates and edges are such numbers.
 pub fits-row : (m : Mode) (L : ℕ) (p : Square) (c : Row) (k : ℕ) → Bounded m (modalRow m L p c k)
 unfolding Bounded modalRow boxRow
-fits-row diamond L p c k = tt
-fits-row box L p c k = least-bound L _
+fits-row m L p c k = elim m [ diamond ↦ tt | box ↦ least-bound L _ ]
 
 pub fits-joined : (m : Mode) (u v : ℕ) → Bounded m u → Bounded m v → Bounded m (joined m u v)
 unfolding Bounded joined
-fits-joined diamond u v f g = tt
-fits-joined box u v f g = omega arith
+fits-joined m u v = elim m [ diamond ↦ λ f g. tt | box ↦ omega arith ]
 
 pub fits-gate : (m : Mode) (u v : ℕ) → v ≤ 2 → Bounded m (gate m u v)
 unfolding Bounded gate
-fits-gate diamond u v b = tt
-fits-gate box u v b = imp-bound u v b
+fits-gate m u v b = elim m [ diamond ↦ tt | box ↦ imp-bound u v b ]
 
 pub fits-edge : (m : Mode) → Bounded m (edge m)
 unfolding Bounded edge
-fits-edge diamond = tt
-fits-edge box = le-refl 2
+fits-edge m = elim m [ diamond ↦ tt | box ↦ le-refl 2 ]
 
 pub ruleset fits = (fits-row, fits-joined, fits-gate, fits-edge)
 
@@ -155,5 +146,4 @@ row-is m L p c k x f h =
 -- After a test that holds stands the value itself.
 pub gate-two : (m : Mode) (v : ℕ) → v ≤ 2 → gate m 2 v ≡ v
 unfolding gate
-gate-two diamond v b = omega arith
-gate-two box v b = imp-two v b
+gate-two m v b = elim m [ diamond ↦ omega arith | box ↦ imp-two v b ]
