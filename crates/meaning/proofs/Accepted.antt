@@ -36,7 +36,7 @@ module _ (ℓ : Language) (s : List ℕ) (A : ℕ) where
     field-fits (child σ) v = simp tests (λ h. (h .1, h .3), λ h. (refl, h .0, refl, h .1))
 
     -- What is asked of one record: its kind, its zero byte, its two fields.
-    abbrev Sound : Type 0
+    abbrev pub Sound : Type 0
     Sound =
         (known ℓ (kindAt s r) ≡ true) × (zeroByte s r ≡ 0)
         × Fits s A r (useA (kindAt s r)) (fieldA s r) × Fits s A r (useB (kindAt s r)) (fieldB s r)

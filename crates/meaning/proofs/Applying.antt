@@ -32,12 +32,14 @@ ltb-holds a b = (ltb-true a b, lt-ltb a b)
 leb-holds : (a b : ℕ) → (leb a b ≡ true) ↔ (a ≤ b)
 leb-holds a b = (leb-true a b, le-leb a b)
 
+-- A test that fails, of what is not so.
+never : {P : Type 0} → (P → true ≡ false) → (false ≡ true) ↔ P
+never n = (λ e. absurd (true≢false (sym e)), λ p. absurd (true≢false (n p)))
+
 differ-holds : (σ τ : Sort) → (differ σ τ ≡ true) ↔ (τ ≢ σ)
 unfolding differ
-differ-holds formula formula = (λ e. absurd (true≢false (sym e)), λ n. absurd (n refl))
-differ-holds formula path = (λ e p. absurd (true≢false cc), λ n. refl)
-differ-holds path formula = (λ e p. absurd (true≢false cc), λ n. refl)
-differ-holds path path = (λ e. absurd (true≢false (sym e)), λ n. absurd (n refl))
+differ-holds formula = elim [ formula ↦ never (λ n. absurd (n refl)) | path ↦ (λ e p. absurd (true≢false cc), λ n. refl) ]
+differ-holds path = elim [ formula ↦ (λ e p. absurd (true≢false cc), λ n. refl) | path ↦ never (λ n. absurd (n refl)) ]
 
 unequal : (a b : ℕ) → (not (eqb a b) ≡ true) ↔ (a ≢ b)
 unequal a b = Iff·trans (not-holds (eqb a b)) (eqb-fails a b)
@@ -73,10 +75,6 @@ sizes-apply most W L cells =
     (Iff·trans one-of-three one-of-three)
 
 -- ---- one field
--- A test that fails, of what is not so.
-never : {P : Type 0} → (P → true ≡ false) → (false ≡ true) ↔ P
-never n = (λ e. absurd (true≢false (sym e)), λ p. absurd (true≢false (n p)))
-
 -- An unused field that is not zero, a child that is late, an atom that there isn't, a child of the wrong sort.
 field-applies : (s : List ℕ) (r A v : ℕ) (u : Use) → ((stray u v ≡ true) ↔ ((u ≡ unused) × (v ≢ 0)))
     × ((late u v r ≡ true) ↔ ((σ : Sort) × (u ≡ child σ) × (r ≤ v))) × ((beyond u v A ≡ true) ↔ ((u ≡ atomNumber) × (A ≤ v)))
@@ -122,11 +120,8 @@ module _ (s : List ℕ) (r : ℕ) where
 -- The last record: not a formula, so a path.
 pub last-applies : (s : List ℕ) → (ground6-last s .applies ≡ true) ↔ (sortOf (kindAt s (pred (count s))) ≡ path)
 unfolding ground6-last differ
-last-applies s = go (sortOf (kindAt s (pred (count s))))
-  where
-    go : (σ : Sort) → (differ formula σ ≡ true) ↔ (σ ≡ path)
-    go formula = never (λ e. cc)
-    go path = (λ e. refl, λ e. refl)
+last-applies s = elim (sortOf (kindAt s (pred (count s)))) as (λ σ. (differ formula σ ≡ true) ↔ (σ ≡ path))
+    [ formula ↦ never (λ e. cc) | path ↦ (λ e. refl, λ e. refl) ]
 
 -- ---- stars
 star-is : (K : Kind) → (isStar K ≡ true) ↔ (K ≡ star)

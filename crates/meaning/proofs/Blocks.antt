@@ -1,7 +1,6 @@
 -- Records in postorder. A forest is a run of records that are sound, and each of them is the child of one place among them, but
 -- for the roots. Two forests side by side have the roots of both; and a record after a forest, whose fields are its roots,
 -- makes it a block: that record is its one root. So places add up, and no field has to be looked for.
---   Sound ℓ e A r               what the checks ask of record r
 --   Forest ℓ e A n m roots      the records n .. m - 1 of e; roots r is 1 if r is one of the roots, else 0
 --   Block ℓ e A n m σ t         the same with one root, the last; it is of the sort σ, and its tree is t
 --   Leaf, Single, Double        a kind of the core whose node has no child, one, two
@@ -19,6 +18,7 @@ use Rattle.meaning.specs.Record.{Language, Kind, Sort, unused, child, us
 use Rattle.meaning.specs.Tree.{Tree, noTree, nodeOf, trees, treeAt}
 use Rattle.meaning.specs.WellFormed.{Fits}
 use Rattle.meaning.proofs.Bounds.{le-or-lt, below-suc}
+use Rattle.meaning.proofs.Accepted.{Sound}
 use Rattle.meaning.proofs.Nodes.{tree-node, trees-settled}
 use Rattle.meaning.proofs.Bytes.{Reads}
 
@@ -50,14 +50,8 @@ seen-once r (suc m) l = elim (below-suc l) [
 
 module _ (ℓ : Language) (e : List ℕ) (A : ℕ) where
   -- ---- forests
-  pub record Sound (r : ℕ) : Type 0 where
-    pub kind : known ℓ (kindAt e r) ≡ true
-    pub zero-byte : zeroByte e r ≡ 0
-    pub first : Fits e A r (useA (kindAt e r)) (fieldA e r)
-    pub second : Fits e A r (useB (kindAt e r)) (fieldB e r)
-
   pub record Forest (n m : ℕ) (roots : ℕ → ℕ) : Type 0 where
-    pub sound : (r : ℕ) → n ≤ r → r < m → Sound r
+    pub sound : (r : ℕ) → n ≤ r → r < m → Sound ℓ e A r
     pub counted : (r : ℕ) → placesIn e r m + roots r + seen r n ≡ placesIn e r n + seen r m
 
   forest-none : (n : ℕ) → Forest n n (λ r. 0)
@@ -69,7 +63,7 @@ module _ (ℓ : Language) (e : List ℕ) (A : ℕ) where
     counted = λ r. omega (arith, f .counted r, g .counted r);
   }
 
-  forest-node : (n m : ℕ) {p : ℕ → ℕ} → Forest n m p → Sound m → ((r : ℕ) → uses e r m ≡ p r) → Forest n (suc m) (one m)
+  forest-node : (n m : ℕ) {p : ℕ → ℕ} → Forest n m p → Sound ℓ e A m → ((r : ℕ) → uses e r m ≡ p r) → Forest n (suc m) (one m)
   unfolding placesIn seen
   forest-node n m f s u = record {
     sound = λ r a b. elim (below-suc b) [ inl h ↦ rw h s | inr h ↦ f .sound r a h ];
@@ -97,12 +91,7 @@ module _ (ℓ : Language) (e : List ℕ) (A : ℕ) where
       → nodeOf K a b (λ q. getD (trees e m) q noTree) ≡ t → Block n (suc m) (sortOf K) t
   unfolding uses
   block-node n m a b K l f reads k g h named node =
-      let sound : Sound m = record {
-        kind = rw (reads .kind) k;
-        zero-byte = reads .zero-byte;
-        first = rw (reads .kind, reads .first) g;
-        second = rw (reads .kind, reads .second) h;
-      } in
+      let sound : Sound ℓ e A m = rw (reads .kind, reads .first, reads .second) (k, reads .zero-byte, g, h) in
       record {
         some = omega arith;
         forest = forest-node n m f sound (λ r. rw (reads .kind, reads .first, reads .second) (named r));

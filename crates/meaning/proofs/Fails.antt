@@ -38,9 +38,7 @@ leb-fails a b = (leb-false a b, lt-leb a b)
 -- The test of sorts.
 pub differ-fails : (σ τ : Sort) → (differ σ τ ≡ false) ↔ (τ ≡ σ)
 unfolding differ
-differ-fails formula formula = (λ e. refl, λ e. refl)
-differ-fails formula path = (λ e. absurd (true≢false e), λ e. cc)
-differ-fails path formula = (λ e. absurd (true≢false e), λ e. cc)
-differ-fails path path = (λ e. refl, λ e. refl)
+differ-fails formula = elim [ formula ↦ (λ e. refl, λ e. refl) | path ↦ (λ e. absurd (true≢false e), λ e. cc) ]
+differ-fails path = elim [ formula ↦ (λ e. absurd (true≢false e), λ e. cc) | path ↦ (λ e. refl, λ e. refl) ]
 
 pub ruleset tests = (or-fails, not-fails, eqb-holds, eqb-fails, leb-fails, differ-fails)

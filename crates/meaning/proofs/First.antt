@@ -17,7 +17,7 @@ abbrev pub Clear : List Ground → Type 0
 Clear = All (λ g. g .applies ≡ false)
 
 -- A test holds or fails.
-by-test : (b : Bool) → (b ≡ true) ⊎ (b ≡ false)
+pub by-test : (b : Bool) → (b ≡ true) ⊎ (b ≡ false)
 by-test true = inl refl
 by-test false = inr refl
 

@@ -15,6 +15,7 @@ use Rattle.meaning.specs.Record.{Language, count, kindAt, fieldA, fieldB
 use Rattle.meaning.specs.Shorthand.{expansion}
 use Rattle.meaning.specs.Tree.{Tree, noTree, asForm, asPath, nodeOf, trees, treeAt, formAt, pathAt}
 use Rattle.meaning.specs.WellFormed.{Fits, WellFormed}
+use Rattle.meaning.proofs.Bounds.{below-suc}
 use Rattle.meaning.proofs.Cases.{by-kind, by-shorthand}
 
 -- ---- the list of trees
@@ -34,11 +35,10 @@ module _ (s : List ℕ) where
   pub trees-settled : (n q : ℕ) → q < n → getD (trees s n) q noTree ≡ treeAt s q
   unfolding trees treeAt
   trees-settled zero q l = absurd (omega arith)
-  trees-settled (suc n) q l =
-      ⊎-elim
-      (λ (e : q ≡ n). rw e)
-      (λ (m : q < n). List·getD-append (trees s n) _ _ q (rw (trees-length n) m) ∙ trees-settled n q m)
-      (eq-or-lt-of-le (le-of-suc-le-suc l))
+  trees-settled (suc n) q l = elim (below-suc l) [
+    | inl e ↦ rw e
+    | inr m ↦ List·getD-append (trees s n) _ _ q (rw (trees-length n) m) ∙ trees-settled n q m
+  ]
 
 -- ---- the trees that a node looks at
 -- A field that is a child has the same tree on both sides; of others nothing is asked.

@@ -14,7 +14,7 @@ use Rattle.meaning.specs.Run.{each}
 use Rattle.meaning.specs.Refusal.{Ground, ofFirst, firstOf}
 use Rattle.meaning.specs.Reason.{Reason, given, Position, position, positionOf, Earlier, Before, First, _when_}
 use Rattle.meaning.proofs.Bounds.{le-or-lt, below-suc}
-use Rattle.meaning.proofs.First.{Numbered, none-clear, clear-skip, found-stop, numbered-append}
+use Rattle.meaning.proofs.First.{Numbered, by-test, clear-none, none-clear, clear-append, clear-skip, found-stop, numbered-append}
 
 -- ---- positions
 not-earlier : (p : Position) → Earlier p p → ⊥
@@ -64,15 +64,13 @@ unfolding ofFirst
 ordered-one {g} {σ} {P} number some (to, from) = record {
   numbered = (omega arith, tt);
   none = λ e ρ i. let z = rw (from (i .1)) at e in omega arith;
-  some = λ n. go (g .applies) refl n;
+  some = λ n. elim (by-test (g .applies)) [
+    | inl e ↦ (σ, (refl, to e), rw e (sym number), λ τ b i. not-earlier _ (rw (i .0) at b))
+    | inr e ↦ absurd (n (rw e))
+  ];
   from = λ ρ i b. not-earlier _ (rw (i .0) at b);
   upto = λ ρ i r b. rw (i .0) at b;
 }
-  where
-    go : (b : Bool) → g .applies ≡ b → firstOf (g ∷ []) ≢ 0
-        → (ρ : Reason) × (σ when P) ρ × (given ρ ≡ firstOf (g ∷ [])) × ((τ : Reason) → Before τ ρ → (σ when P) τ → ⊥)
-    go true e n = (σ, (refl, to e), rw e (sym number), λ τ b i. not-earlier _ (rw (i .0) at b))
-    go false e n = absurd (n (rw e))
 
 -- The same grounds for the same reasons, and a later end.
 pub ordered-same : {gs : List Ground} {In Also : Reason → Type 0} {lo hi last : Position} → ((ρ : Reason) → In ρ ↔ Also ρ) → UpTo hi last
@@ -90,32 +88,22 @@ pub ordered-append : {gs hs : List Ground} {In Also : Reason → Type 0} {lo m n
     → UpTo lo n × UpTo m n × UpTo m hi → Ordered (gs ++ hs) (λ ρ. In ρ ⊎ Also ρ) lo hi
 ordered-append {gs} {hs} {In} {Also} o p (start, gap, end) = record {
   numbered = numbered-append gs hs (o .numbered) (p .numbered);
-  none = λ e ρ i. let (a, b) = clear e in elim i [ inl j ↦ o .none a ρ j | inr j ↦ p .none b ρ j ];
-  some = λ n. some n;
+  none = λ e ρ i.
+      let (a, b) = clear-append gs hs .0 (none-clear (gs ++ hs) (numbered-append gs hs (o .numbered) (p .numbered)) e) in
+      elim i [ inl j ↦ o .none (clear-none gs a) ρ j | inr j ↦ p .none (clear-none hs b) ρ j ];
+  some = λ n. elim (ℕ-discrete (firstOf gs) 0) [
+    | yes z ↦
+        let skip : firstOf (gs ++ hs) ≡ firstOf hs = clear-skip gs hs (none-clear gs (o .numbered) z) in
+        let (ρ, i, g, b) = p .some (λ e. n (skip ∙ e)) in
+        (ρ, inr i, g ∙ sym skip, λ σ c j. elim j [ inl k ↦ o .none z σ k | inr k ↦ b σ c k ])
+    | no d ↦
+        let (ρ, i, g, b) = o .some d in
+        let later : (σ : Reason) → Before σ ρ → Also σ → ⊥ = λ σ c k. p .from σ k (earlier-upto gap (o .upto ρ i _ c)) in
+        (ρ, inl i, g ∙ sym (found-stop gs hs d), λ σ c j. elim j [ inl k ↦ b σ c k | inr k ↦ later σ c k ])
+  ];
   from = λ ρ i b. elim i [ inl j ↦ o .from ρ j b | inr j ↦ p .from ρ j (earlier-upto start b) ];
   upto = λ ρ i r b. elim i [ inl j ↦ earlier-upto end (o .upto ρ j r b) | inr j ↦ p .upto ρ j r b ];
 }
-  where
-    skip : firstOf gs ≡ 0 → firstOf (gs ++ hs) ≡ firstOf hs
-    skip e = clear-skip gs hs (none-clear gs (o .numbered) e)
-
-    clear : firstOf (gs ++ hs) ≡ 0 → (firstOf gs ≡ 0) × (firstOf hs ≡ 0)
-    clear e = elim (ℕ-discrete (firstOf gs) 0) [
-      | yes z ↦ (z, sym (skip z) ∙ e)
-      | no d ↦ absurd (d (sym (found-stop gs hs d) ∙ e))
-    ]
-
-    some : firstOf (gs ++ hs) ≢ 0 → (ρ : Reason) × (In ρ ⊎ Also ρ) × (given ρ ≡ firstOf (gs ++ hs))
-        × ((σ : Reason) → Before σ ρ → In σ ⊎ Also σ → ⊥)
-    some n = elim (ℕ-discrete (firstOf gs) 0) [
-      | yes z ↦
-          let (ρ, i, g, b) = p .some (λ e. n (skip z ∙ e)) in
-          (ρ, inr i, g ∙ sym (skip z), λ σ c j. elim j [ inl k ↦ o .none z σ k | inr k ↦ b σ c k ])
-      | no d ↦
-          let (ρ, i, g, b) = o .some d in
-          let later : (σ : Reason) → Before σ ρ → Also σ → ⊥ = λ σ c k. p .from σ k (earlier-upto gap (o .upto ρ i _ c)) in
-          (ρ, inl i, g ∙ sym (found-stop gs hs d), λ σ c j. elim j [ inl k ↦ b σ c k | inr k ↦ later σ c k ])
-    ]
 
 -- One ground before others.
 pub ordered-cons : {g : Ground} {σ : Reason} {P : Type 0} {gs : List Ground} {Also : Reason → Type 0} {n hi : Position}
