@@ -1,8 +1,8 @@
 -- Where a path leads: to the instants j with a value above 0 from k to j. A move leads to the instant beside k; a
 -- test, and no pass of a star, to k itself; and a sequence by way of some instant below L.
 use Prim.Native.Nat.{ℕ, _+_, _≤_, _<_, min, zero-le}
-use mathlib.Core.Path.{_≡_, refl}
-use mathlib.Core.Bool.{Bool, true, false, cond}
+use mathlib.Core.Path.{_≡_}
+use mathlib.Core.Bool.{cond}
 use native.Mathlib.Nat.{le-refl, le-trans, le-min}
 use native.Mathlib.Decide.{ℕ-discrete}
 use native.Mathlib.Omega.{arith}

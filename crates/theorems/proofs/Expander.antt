@@ -22,8 +22,7 @@ use Rattle.meaning.proofs.Examples.{starred}
 use Rattle.theorems.specs.Expander.{expanded, Expanding, Expander}
 use Rattle.meaning.proofs.Bytes.{at-start}
 use Rattle.meaning.proofs.Atoms.{formAtoms, form-atoms}
-use Rattle.meaning.proofs.Blocks.{Block, block-once}
-use Rattle.meaning.proofs.Postorder.{form-part}
+use Rattle.meaning.proofs.Postorder.{Block, block-once, form-part}
 
 -- ---- what the expander accepts
 -- The answer that accepts.
@@ -87,10 +86,10 @@ module _ (ℓ : Language) (F : Form) (A : ℕ) (low : formAtoms F ≤ A) where
         some = written-block .some;
         few = omega (arith, written-count);
         atoms = atoms;
-        kinds = λ r l. sound r zero-le l .kind;
-        zeros = λ r l. sound r zero-le l .zero-byte;
-        first = λ r l. sound r zero-le l .first;
-        second = λ r l. sound r zero-le l .second;
+        kinds = λ r l. sound r zero-le l .0;
+        zeros = λ r l. sound r zero-le l .1;
+        first = λ r l. sound r zero-le l .2;
+        second = λ r l. sound r zero-le l .3;
         last = written-block .sorted;
         once = block-once ℓ e A written-block;
       }

@@ -1,7 +1,7 @@
 -- The rules of a translation are in form, as the judge asks. A label is a column of the filling, because what a record
 -- names is a record; and the mark for the previous instant stands only where there is one, at all instants but the
 -- first.
-use Prim.Native.Nat.{ℕ, pred, _+_, _/_, _%_, _≤_, _<_}
+use Prim.Native.Nat.{ℕ, pred, _+_, _≤_, _<_}
 use mathlib.Core.Path.{_≡_, refl}
 use mathlib.Core.Bool.{true, false}
 use mathlib.Core.List.{List, [], _∷_}
