@@ -30,7 +30,7 @@ use Rattle.meaning.proofs.Outcome.{judge-verdict}
 use Rattle.theorems.specs.Filling.{Filling, others, Meets}
 use Rattle.theorems.specs.Demand3.{Accepted, OneFilling}
 use Rattle.theorems.specs.Why.{Agreement}
-use Rattle.theorems.proofs.Shaped.{shapes}
+use Rattle.theorems.proofs.Shape.{shapes}
 use Rattle.theorems.proofs.Keeping.{every-word, all-hold, append-kept}
 use Rattle.meaning.proofs.Runs.{all-append}
 use Rattle.theorems.proofs.InForm.{Formed, narrow, translation-formed}

@@ -13,7 +13,7 @@ use Rattle.meaning.proofs.Outcome.{judge-verdict}
 use Rattle.theorems.specs.Filling.{Filling, others, Meets}
 use Rattle.theorems.specs.Demand3.{Accepted, Demand3}
 use Rattle.theorems.proofs.Agreement.{takes-others}
-use Rattle.theorems.proofs.Shaped.{shapes}
+use Rattle.theorems.proofs.Shape.{shapes}
 use Rattle.theorems.proofs.OneFilling.{one-filling}
 use Rattle.theorems.proofs.Written.{words-written, others-first}
 

@@ -1,7 +1,5 @@
 -- The proofs of the demands.
 pub mod Shape
-pub mod Cleared
-pub mod Shaped
 pub mod Keeping
 pub mod Saying
 pub mod Labelled
@@ -10,9 +8,7 @@ pub mod Determined
 pub mod OneFilling
 pub mod Written
 pub mod Demand3
-pub mod SecondLine
-pub mod Standing
-pub mod BoxTest
+pub mod Why
 pub mod InForm
 pub mod Agreement
 pub mod Levels
