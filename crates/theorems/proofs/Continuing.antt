@@ -3,6 +3,7 @@
 -- A sequence's first part goes on with the second, which goes on as the sequence does; a star's body with the star.
 use Prim.Native.Nat.{ℕ, zero, suc, _+_, _≤_, _<_}
 use mathlib.Core.Path.{_≡_, refl, sym, ap, _∙_}
+use mathlib.Core.Bool.{true≢false}
 use mathlib.Core.List.{List}
 use mathlib.Core.Logic.{_⊎_, inl, inr}
 use native.Mathlib.Omega.{arith}
@@ -10,6 +11,7 @@ use Rattle.meaning.specs.Record.{Kind, constant, atom, modal, move, test, choic
 use Rattle.meaning.specs.Record.{core, count, kindAt, fieldA, fieldB, Sort, formula, path, sortOf}
 use Rattle.meaning.specs.Record.{Mode, Use, unused, atomNumber, child, useA, useB, parent}
 use Rattle.meaning.specs.WellFormed.{WellFormed}
+use Rattle.meaning.proofs.Cases.{by-kind}
 use Rattle.meaning.proofs.Nodes.{differs}
 use Rattle.meaning.proofs.Parents.{InFirst, InSecond, used-in, has-parent, child-earlier}
 use Rattle.meaning.proofs.Climbing.{path-before}
@@ -30,13 +32,6 @@ pub record Onto (s : List ℕ) (r z : ℕ) : Type 0 where
   pub within : z < count s
   pub onward : sortAt s z ≡ path → (q : ℕ) × Later s r q × (contAt s z ≡ contAt s q)
 
--- A field holds a path.
-abbrev HoldsPath : Use → Type 0
-HoldsPath unused = ⊥
-HoldsPath atomNumber = ⊥
-HoldsPath (child formula) = ⊥
-HoldsPath (child path) = Unit {0}
-
 module _ (s : List ℕ) (L : ℕ) (cell : ℕ → ℕ → ℕ) (q : ℕ) (l : q < count s)
     (up : sortAt s q ≡ path → Onto s q (contAt s q)) where
   -- A part of a path q.
@@ -53,37 +48,25 @@ module _ (s : List ℕ) (L : ℕ) (cell : ℕ → ℕ → ℕ) (q : ℕ) (l : q 
           (z, record { later = omega arith; within = a .within; sorted = a .sorted }, f);
     })
 
-  -- The first child of q.
-  first-onto : (K : Kind) → kindAt s q ≡ K → Shape s L cell K q → HoldsPath (useA K)
-      → Onto s (fieldA s q) (contAt s (fieldA s q))
+  -- The first child of q, and the second.
+  first-onto : (K : Kind) → kindAt s q ≡ K → Shape s L cell K q → useA K ≡ child path → Onto s (fieldA s q) (contAt s (fieldA s q))
   unfolding Shape columnsOf
-  first-onto (constant v) e sh u = absurd u
-  first-onto atom e sh u = absurd u
-  first-onto (modal m) e (p, b) u =
-      rw (p .continued) (record { within = omega arith; onward = λ t. absurd (differs (b .sorted) t) })
-  first-onto (move v) e sh u = absurd u
-  first-onto test e sh u = absurd u
-  first-onto choice e (p, b) u = rw (p .continued) (as-parent p (rw e) refl)
-  first-onto sequence e (p, b) u =
-      rw (p .continued) (record { within = omega arith; onward = λ _. (q, after p (rw e), b .continued) })
-  first-onto star e (c, p, _) u = rw (p .continued) (record { within = l; onward = λ _. (q, after p (rw e), refl) })
-  first-onto (shorthand σ) e sh u = absurd sh
-  first-onto unknown e sh u = absurd sh
+  first-onto =
+      by-kind _ (λ v e sh u. absurd (true≢false cc)) (λ e sh u. absurd (true≢false cc))
+      (λ m e (p, b) u. rw (p .continued) (record { within = omega arith; onward = λ t. absurd (differs (b .sorted) t) }))
+      (λ v e sh u. absurd (true≢false cc)) (λ e sh u. absurd (true≢false cc))
+      (λ e (p, b) u. rw (p .continued) (as-parent p (rw e) refl))
+      (λ e (p, b) u. rw (p .continued) (record { within = omega arith; onward = λ _. (q, after p (rw e), b .continued) }))
+      (λ e (c, p, _) u. rw (p .continued) (record { within = l; onward = λ _. (q, after p (rw e), refl) }))
+      (λ σ e sh u. absurd sh) (λ e sh u. absurd sh)
 
-  -- The second.
-  second-onto : (K : Kind) → kindAt s q ≡ K → Shape s L cell K q → HoldsPath (useB K)
-      → Onto s (fieldB s q) (contAt s (fieldB s q))
+  second-onto : (K : Kind) → kindAt s q ≡ K → Shape s L cell K q → useB K ≡ child path → Onto s (fieldB s q) (contAt s (fieldB s q))
   unfolding Shape columnsOf
-  second-onto (constant v) e sh u = absurd u
-  second-onto atom e sh u = absurd u
-  second-onto (modal m) e sh u = absurd u
-  second-onto (move v) e sh u = absurd u
-  second-onto test e sh u = absurd u
-  second-onto choice e (a, p) u = rw (p .continued) (as-parent p (rw e) refl)
-  second-onto sequence e (a, p) u = rw (p .continued) (as-parent p (rw e) refl)
-  second-onto star e sh u = absurd u
-  second-onto (shorthand σ) e sh u = absurd sh
-  second-onto unknown e sh u = absurd sh
+  second-onto =
+      by-kind _ (λ v e sh u. absurd (true≢false cc)) (λ e sh u. absurd (true≢false cc)) (λ m e sh u. absurd (true≢false cc))
+      (λ v e sh u. absurd (true≢false cc)) (λ e sh u. absurd (true≢false cc)) (λ e (a, p) u. rw (p .continued) (as-parent p (rw e) refl))
+      (λ e (a, p) u. rw (p .continued) (as-parent p (rw e) refl)) (λ e sh u. absurd (true≢false cc))
+      (λ σ e sh u. absurd sh) (λ e sh u. absurd sh)
 
 module _ {s : List ℕ} {A : ℕ} (w : WellFormed core s A) where
   module _ (L : ℕ) (cell : ℕ → ℕ → ℕ) (shape : (r : ℕ) → r < count s → Shape s L cell (kindAt s r) r) where
@@ -101,11 +84,11 @@ module _ {s : List ℕ} {A : ℕ} (w : WellFormed core s A) where
         go q b up (inl (σ, e, f)) =
             let fits = rw e at (w .first q b) in
             let z : σ ≡ path = sym (fits .1) ∙ ap (sortAt s) f ∙ p in
-            rw f at (first-onto s L cell q b up (kindAt s q) refl (shape q b) (rw (e, z) tt))
+            rw f at (first-onto s L cell q b up (kindAt s q) refl (shape q b) cc)
         go q b up (inr (σ, e, f)) =
             let fits = rw e at (w .second q b) in
             let z : σ ≡ path = sym (fits .1) ∙ ap (sortAt s) f ∙ p in
-            rw f at (second-onto s L cell q b up (kindAt s q) refl (shape q b) (rw (e, z) tt))
+            rw f at (second-onto s L cell q b up (kindAt s q) refl (shape q b) cc)
 
     -- So every path goes on.
     pub onto : (r : ℕ) → r < count s → sortAt s r ≡ path → Onto s r (contAt s r)

@@ -6,13 +6,10 @@ pub mod Labelled
 pub mod Continuing
 pub mod Determined
 pub mod OneFilling
-pub mod Written
-pub mod Demand3
 pub mod Why
 pub mod InForm
 pub mod Agreement
 pub mod Levels
 pub mod Paper
 pub mod Expander
-pub mod Demand1
-pub mod Demand2
+pub mod Demands
