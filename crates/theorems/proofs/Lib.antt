@@ -3,13 +3,11 @@ pub mod Shape
 pub mod Keeping
 pub mod Saying
 pub mod Labelled
-pub mod Continuing
 pub mod Determined
 pub mod OneFilling
 pub mod Why
 pub mod InForm
 pub mod Agreement
-pub mod Levels
 pub mod Paper
 pub mod Expander
 pub mod Demands
