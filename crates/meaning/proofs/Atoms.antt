@@ -5,8 +5,7 @@ use Prim.Native.Nat.{ℕ, zero, suc, _+_, _≤_, _<_, max}
 use mathlib.Core.List.{List}
 use native.Mathlib.Nat.{le-refl}
 use native.Mathlib.Omega.{arith}
-use Rattle.meaning.specs.Record.{Kind, Shorthand, columnsOf, argumentsOf}
-use Rattle.meaning.specs.Record.{Language, Use, unused, atomNumber, child, useA, useB, count, kindAt}
+use Rattle.meaning.specs.Record.{Kind, Shorthand, columnsOf, argumentsOf, Language, Use, unused, atomNumber, child, useA, useB, count, kindAt}
 use Rattle.meaning.specs.Formula.{Form, Path}
 use Rattle.meaning.specs.Shorthand.{expansion}
 use Rattle.meaning.specs.Tree.{Tree, asForm, asPath, nodeOf, treeAt, formAt}

@@ -7,9 +7,7 @@ use mathlib.Core.List.{List}
 use native.Mathlib.Omega.{arith}
 use lib.ListN.{length, getD, length-append, List·getD-append}
 use lib.Seq.{getD-at}
-use Rattle.meaning.specs.Record.{Kind, columnsOf, argumentsOf}
-use Rattle.meaning.specs.Record.{Shorthand}
-use Rattle.meaning.specs.Record.{Use, unused, atomNumber, child, useA, useB, Sort, sortOf}
+use Rattle.meaning.specs.Record.{Kind, columnsOf, argumentsOf, Shorthand, Use, unused, atomNumber, child, useA, useB, Sort, sortOf}
 use Rattle.meaning.specs.Record.{Language, count, kindAt, fieldA, fieldB}
 use Rattle.meaning.specs.Shorthand.{expansion}
 use Rattle.meaning.specs.Tree.{Tree, noTree, asForm, asPath, nodeOf, trees, treeAt, formAt, pathAt}

@@ -1,23 +1,195 @@
--- Each service's grounds stand for its reasons: those of one record in turn, then of each record, then stage after stage.
-use Prim.Native.Nat.{ℕ, suc, pred, _<_}
-use mathlib.Core.Path.{_≡_, refl}
-use mathlib.Core.Bool.{true}
-use mathlib.Core.Logic.{_↔_, _≢_}
+-- Each service's grounds stand for its reasons. A ground's test holds exactly where the reason's plain fact is so; and the grounds are in the
+-- reasons' order: those of one record in turn, then of each record, then stage after stage.
+use Prim.Native.Nat.{ℕ, zero, suc, pred, _*_, _%_, _<_, _≤_}
+use mathlib.Core.Path.{_≡_, refl, sym, _∙_}
+use mathlib.Core.Bool.{Bool, true, false, not, _&&_, _||_, true≢false}
+use mathlib.Core.Logic.{_⊎_, inl, inr, _↔_, _≢_, Iff·rfl, Iff·trans, ⊎-map}
 use mathlib.Core.List.{List, [], _∷_}
 use native.Mathlib.Omega.{arith}
 use lib.ListN.{length}
+use lib.Dec.{leb, ltb, eqb}
+use borrow.Author.Tests.{ltb-true, lt-ltb, leb-true, le-leb}
+use Rattle.meaning.specs.Record.{Language, known, recordSize, mostRecords, count, zeroByte, fieldA, kindAt, Kind, star, Sort, formula, path}
+use Rattle.meaning.specs.Record.{sortOf, Use, unused, atomNumber, child, places, ahead, back, core, full}
+use Rattle.meaning.specs.Formula.{mayStand, goes}
+use Rattle.meaning.specs.Tree.{pathAt}
+use Rattle.meaning.specs.Rule.{ruleSize, ruleAt, ruleWord}
+use Rattle.meaning.specs.Refusal.{stray, late, beyond, differ, misfit, isStar, badLiteral, badRule, mostRules, ground1, ground2, ground3}
+use Rattle.meaning.specs.Refusal.{ground4, ground5, ground6, ground6-last, ground7, ground8-cells, ground11, ground12, ground13}
+use Rattle.meaning.specs.Refusal.{ground13-length, Ground, mostAtoms, ground8, grounds9, ground10, ground14, recordGrounds, treeGrounds}
+use Rattle.meaning.specs.Refusal.{starGrounds, formulaGrounds, checkGrounds, expandGrounds, valueGrounds, translateGrounds, judgeGrounds}
+use Rattle.meaning.specs.Reason.{InField, WrongSize, WrongWord, WrongRule, given, position, positionOf, notOneParent, noRoom, RecordRefused}
+use Rattle.meaning.specs.Reason.{TreeRefused, FormulaRefused, StarRefused, CellRefused, CheckRefused, ExpandRefused, ValueRefused}
+use Rattle.meaning.specs.Reason.{TranslateRefused, JudgeRefused, _when_}
 use Rattle.meaning.specs.Run.{each}
-use Rattle.meaning.specs.Record.{Language, core, full, count, places}
 use Rattle.meaning.specs.Judge.{ruleCount}
-use Rattle.meaning.specs.Refusal.{Ground, mostAtoms, ground1, ground2, ground3, ground4, ground5, ground6, ground6-last, ground7, ground8, ground8-cells}
-use Rattle.meaning.specs.Refusal.{grounds9, ground10, ground11, ground12, ground13, ground13-length, ground14, recordGrounds, treeGrounds, starGrounds}
-use Rattle.meaning.specs.Refusal.{formulaGrounds, checkGrounds, expandGrounds, valueGrounds, translateGrounds, judgeGrounds}
+use Rattle.meaning.proofs.Cases.{by-kind}
+use Rattle.meaning.proofs.Fails.{and-holds, not-holds, eqb-holds, eqb-fails}
 use Rattle.meaning.proofs.RuleCount.{translation-counted}
-use Rattle.meaning.specs.Reason.{given, position, positionOf, notOneParent, noRoom, RecordRefused, TreeRefused, FormulaRefused, StarRefused, CellRefused}
-use Rattle.meaning.specs.Reason.{CheckRefused, ExpandRefused, ValueRefused, TranslateRefused, JudgeRefused, _when_}
 use Rattle.meaning.proofs.Ordered.{Ordered, ordered-one, ordered-cons, ordered-same, ordered-append, ordered-each}
-use Rattle.meaning.proofs.Applying.{one-of-three, ltb-holds, length-applies, sizes-apply, kind-applies, zero-applies, late-child-applies, atom-applies}
-use Rattle.meaning.proofs.Applying.{sort-applies, parents-apply, last-applies, turns-apply, stands-apply, words-apply, rule-applies}
+
+-- ---- tests
+-- One of two.
+or-holds : (a b : Bool) → ((a || b) ≡ true) ↔ ((a ≡ true) ⊎ (b ≡ true))
+or-holds true b = (λ e. inl refl, λ p. refl)
+or-holds false b = (inr, λ p. elim p [ inl e ↦ absurd (true≢false (sym e)) | inr e ↦ e ])
+
+pub ltb-holds : (a b : ℕ) → (ltb a b ≡ true) ↔ (a < b)
+ltb-holds a b = (ltb-true a b, lt-ltb a b)
+
+leb-holds : (a b : ℕ) → (leb a b ≡ true) ↔ (a ≤ b)
+leb-holds a b = (leb-true a b, le-leb a b)
+
+-- A test that fails, of what is not so.
+never : {P : Type 0} → (P → true ≡ false) → (false ≡ true) ↔ P
+never n = (λ e. absurd (true≢false (sym e)), λ p. absurd (true≢false (n p)))
+
+differ-holds : (σ τ : Sort) → (differ σ τ ≡ true) ↔ (τ ≢ σ)
+unfolding differ
+differ-holds formula = elim [ formula ↦ never (λ n. absurd (n refl)) | path ↦ (λ e p. absurd (true≢false cc), λ n. refl) ]
+differ-holds path = elim [ formula ↦ (λ e p. absurd (true≢false cc), λ n. refl) | path ↦ never (λ n. absurd (n refl)) ]
+
+unequal : (a b : ℕ) → (not (eqb a b) ≡ true) ↔ (a ≢ b)
+unequal a b = Iff·trans (not-holds (eqb a b)) (eqb-fails a b)
+
+-- Tests of which each is a fact.
+module _ {a b : Bool} {P Q : Type 0} (p : (a ≡ true) ↔ P) (q : (b ≡ true) ↔ Q) where
+  either : ((a || b) ≡ true) ↔ (P ⊎ Q)
+  either = (λ e. ⊎-map (p .0) (q .0) (or-holds a b .0 e), λ i. or-holds a b .1 (⊎-map (p .1) (q .1) i))
+
+  both : ((a && b) ≡ true) ↔ (P × Q)
+  both = (
+    λ e. let (x, y) = and-holds a b .0 e in (p .0 x, q .0 y),
+    λ (x, y). and-holds a b .1 (p .1 x, q .1 y),
+  )
+
+-- Of three, one is so.
+pub one-of-three : {P Q R : Type 0} → ((P ⊎ Q) ⊎ R) ↔ (P ⊎ Q ⊎ R)
+one-of-three = (
+  λ p. elim p [ inl q ↦ elim q [ inl a ↦ inl a | inr b ↦ inr (inl b) ] | inr c ↦ inr (inr c) ],
+  λ p. elim p [ inl a ↦ inl (inl a) | inr q ↦ elim q [ inl b ↦ inl (inr b) | inr c ↦ inr c ] ],
+)
+
+-- ---- lengths and sizes
+pub length-applies : (s : List ℕ)
+    → (ground1 s .applies ≡ true) ↔ ((length s ≡ 0) ⊎ (length s % recordSize ≢ 0) ⊎ (recordSize * mostRecords < length s))
+unfolding ground1
+length-applies s = Iff·trans (either (either (eqb-holds _ _) (unequal _ _)) (ltb-holds _ _)) one-of-three
+
+pub sizes-apply : (most W L : ℕ) (cells : List ℕ) → (ground8-cells most W L cells .applies ≡ true) ↔ WrongSize most W L cells
+unfolding ground8-cells
+sizes-apply most W L cells =
+    Iff·trans (either (either (either (ltb-holds _ _) (eqb-holds _ _)) (ltb-holds _ _)) (unequal _ _))
+    (Iff·trans one-of-three one-of-three)
+
+-- ---- one field
+-- An unused field that is not zero, a child that is late, an atom that there isn't, a child of the wrong sort.
+field-applies : (s : List ℕ) (r A v : ℕ) (u : Use) → ((stray u v ≡ true) ↔ ((u ≡ unused) × (v ≢ 0)))
+    × ((late u v r ≡ true) ↔ ((σ : Sort) × (u ≡ child σ) × (r ≤ v))) × ((beyond u v A ≡ true) ↔ ((u ≡ atomNumber) × (A ≤ v)))
+    × ((misfit s u v ≡ true) ↔ ((σ : Sort) × (u ≡ child σ) × (sortOf (kindAt s v) ≢ σ)))
+unfolding stray late beyond misfit
+field-applies s r A v unused =
+    (Iff·trans (unequal v 0) (λ n. (refl, n), λ p. p .1), never (λ p. cc), never (λ p. cc), never (λ p. cc))
+field-applies s r A v atomNumber =
+    (never (λ p. cc), never (λ p. cc), Iff·trans (leb-holds A v) (λ l. (refl, l), λ p. p .1), never (λ p. cc))
+field-applies s r A v (child σ) = (
+  never (λ p. cc),
+  Iff·trans (leb-holds r v) (λ l. (σ, refl, l), λ p. p .2),
+  never (λ p. cc),
+  Iff·trans (differ-holds σ _) (λ n. (σ, refl, n), λ (τ, e, n) d. n (d ∙ cc)),
+)
+
+-- ---- one record
+module _ (s : List ℕ) (r : ℕ) where
+  pub kind-applies : (ℓ : Language) → (ground2 ℓ s r .applies ≡ true) ↔ (known ℓ (kindAt s r) ≡ false)
+  unfolding ground2
+  kind-applies ℓ = not-holds _
+
+  pub zero-applies : (ground3 s r .applies ≡ true) ↔ ((zeroByte s r ≢ 0) ⊎ InField s r (λ u v. (u ≡ unused) × (v ≢ 0)))
+  unfolding ground3
+  zero-applies = Iff·trans (either (either (unequal _ _) (field-applies s r 0 _ _ .0)) (field-applies s r 0 _ _ .0)) one-of-three
+
+  pub late-child-applies : (ground4 s r .applies ≡ true) ↔ InField s r (λ u v. (σ : Sort) × (u ≡ child σ) × (r ≤ v))
+  unfolding ground4
+  late-child-applies = either (field-applies s r 0 _ _ .1) (field-applies s r 0 _ _ .1)
+
+  pub atom-applies : (A : ℕ) → (ground5 s A r .applies ≡ true) ↔ InField s r (λ u v. (u ≡ atomNumber) × (A ≤ v))
+  unfolding ground5
+  atom-applies A = either (field-applies s r A _ _ .2) (field-applies s r A _ _ .2)
+
+  pub sort-applies : (ground6 s r .applies ≡ true) ↔ InField s r (λ u v. (σ : Sort) × (u ≡ child σ) × (sortOf (kindAt s v) ≢ σ))
+  unfolding ground6
+  sort-applies = either (field-applies s r 0 _ _ .3) (field-applies s r 0 _ _ .3)
+
+  pub parents-apply : (ground7 s r .applies ≡ true) ↔ (places s r ≢ 1)
+  unfolding ground7
+  parents-apply = unequal _ _
+
+-- The last record: not a formula, so a path.
+pub last-applies : (s : List ℕ) → (ground6-last s .applies ≡ true) ↔ (sortOf (kindAt s (pred (count s))) ≡ path)
+unfolding ground6-last differ
+last-applies s = elim (sortOf (kindAt s (pred (count s)))) as (λ σ. (differ formula σ ≡ true) ↔ (σ ≡ path))
+    [ formula ↦ never (λ e. cc) | path ↦ (λ e. refl, λ e. refl) ]
+
+-- ---- stars
+star-is : (K : Kind) → (isStar K ≡ true) ↔ (K ≡ star)
+unfolding isStar
+star-is =
+    by-kind _ (λ v. never (λ e. cc)) (never (λ e. cc)) (λ m. never (λ e. cc)) (λ w. never (λ e. cc)) (never (λ e. cc)) (never (λ e. cc))
+    (never (λ e. cc)) (λ e. refl, λ e. refl) (λ σ. never (λ e. cc)) (never (λ e. cc))
+
+module _ (s : List ℕ) (r : ℕ) where
+  pub turns-apply : (ground12 s r .applies ≡ true)
+      ↔ ((kindAt s r ≡ star) × (goes ahead (pathAt s (fieldA s r)) ≡ true) × (goes back (pathAt s (fieldA s r)) ≡ true))
+  unfolding ground12
+  turns-apply = Iff·trans (both (star-is _) (both Iff·rfl Iff·rfl)) (λ (k, (a, b)). (k, a, b), λ (k, a, b). (k, (a, b)))
+
+  pub stands-apply : (ground11 s r .applies ≡ true) ↔ ((kindAt s r ≡ star) × (mayStand (pathAt s (fieldA s r)) ≡ true))
+  unfolding ground11
+  stands-apply = both (star-is _) Iff·rfl
+
+-- ---- rules
+pub words-apply : (ws : List ℕ)
+    → (ground13-length ws .applies ≡ true) ↔ ((length ws % ruleSize ≢ 0) ⊎ (ruleSize * mostRules < length ws))
+unfolding ground13-length
+words-apply ws = either (unequal _ _) (ltb-holds _ _)
+
+word-applies : (W place w : ℕ) → (badLiteral W place w ≡ true) ↔ WrongWord W place w
+unfolding badLiteral
+word-applies W place w = either (leb-holds _ _) (both Iff·rfl (unequal _ _))
+
+-- One of the words 1 to 5, or something else.
+one-of-five : (P : Type 0) (F : ℕ → Type 0)
+    → ((((((P ⊎ F 1) ⊎ F 2) ⊎ F 3) ⊎ F 4) ⊎ F 5) ↔ (P ⊎ ((j : ℕ) × (0 < j) × (j < ruleSize) × F j)))
+one-of-five P F = (to, λ i. elim i [ inl p ↦ inl (inl (inl (inl (inl p)))) | inr (j, a, b, f) ↦ from j a b f ])
+  where
+    to : (((((P ⊎ F 1) ⊎ F 2) ⊎ F 3) ⊎ F 4) ⊎ F 5) → P ⊎ ((j : ℕ) × (0 < j) × (j < ruleSize) × F j)
+    to (inr f) = inr (5, omega arith, omega arith, f)
+    to (inl (inr f)) = inr (4, omega arith, omega arith, f)
+    to (inl (inl (inr f))) = inr (3, omega arith, omega arith, f)
+    to (inl (inl (inl (inr f)))) = inr (2, omega arith, omega arith, f)
+    to (inl (inl (inl (inl (inr f))))) = inr (1, omega arith, omega arith, f)
+    to (inl (inl (inl (inl (inl p))))) = inl p
+
+    from : (j : ℕ) → 0 < j → j < ruleSize → F j → ((((P ⊎ F 1) ⊎ F 2) ⊎ F 3) ⊎ F 4) ⊎ F 5
+    from zero a b f = absurd (omega arith)
+    from (suc zero) a b f = inl (inl (inl (inl (inr f))))
+    from (suc (suc zero)) a b f = inl (inl (inl (inr f)))
+    from (suc (suc (suc zero))) a b f = inl (inl (inr f))
+    from (suc (suc (suc (suc zero)))) a b f = inl (inr f)
+    from (suc (suc (suc (suc (suc zero))))) a b f = inr f
+    from (suc (suc (suc (suc (suc (suc j)))))) a b f = absurd (omega arith)
+
+module _ (ws : List ℕ) (W i : ℕ) where
+  word-test : (j : ℕ) → (badLiteral W (ruleWord ws i 0) (ruleWord ws i j) ≡ true) ↔ WrongWord W (ruleWord ws i 0) (ruleWord ws i j)
+  word-test j = word-applies W _ _
+
+  pub rule-applies : (ground13 ws W i .applies ≡ true) ↔ WrongRule ws W i
+  unfolding ground13 badRule ruleAt
+  rule-applies =
+      Iff·trans
+      (either (either (either (either (either (ltb-holds _ _) (word-test 1)) (word-test 2)) (word-test 3)) (word-test 4)) (word-test 5))
+      (one-of-five _ (λ j. WrongWord W (ruleWord ws i 0) (ruleWord ws i j)))
 
 -- ---- records
 module _ (ℓ : Language) (s : List ℕ) (A : ℕ) where

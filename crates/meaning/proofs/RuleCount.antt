@@ -6,11 +6,9 @@ use mathlib.Core.List.{List, [], _∷_, _++_}
 use native.Mathlib.Omega.{arith}
 use lib.ListN.{length, length-append}
 use Rattle.meaning.specs.Run.{each}
-use Rattle.meaning.specs.Record.{Kind}
-use Rattle.meaning.specs.Record.{count, kindAt, Mode, diamond, box, ahead, back}
+use Rattle.meaning.specs.Record.{Kind, count, kindAt, Mode, diamond, box, ahead, back}
 use Rattle.meaning.specs.Rule.{Rule, ruleSize, words}
-use Rattle.meaning.specs.Translation.{joinRules, testRules, moveRules, rulesOf, rulesAt, translation}
-use Rattle.meaning.specs.Translation.{context, ruleNumber, ruleSum}
+use Rattle.meaning.specs.Translation.{joinRules, testRules, moveRules, rulesOf, rulesAt, translation, context, ruleNumber, ruleSum}
 use Rattle.meaning.proofs.Cases.{by-kind}
 
 -- ---- one record

@@ -25,8 +25,7 @@ use Rattle.meaning.proofs.Fails.{tests}
 use Rattle.meaning.proofs.First.{Clear, clear-none, clear-append, each-clear}
 use Rattle.meaning.proofs.Accepted.{clear-well-formed, starred-formed}
 use Rattle.meaning.proofs.RuleCount.{few-rules, words-length}
-use Rattle.meaning.proofs.Answering.{judge-refusal}
-use Rattle.meaning.proofs.Outcome.{judge-verdict}
+use Rattle.meaning.proofs.Outcome.{judge-refusal, judge-verdict}
 use Rattle.theorems.specs.Filling.{Filling, others, Meets}
 use Rattle.theorems.specs.Demand3.{Accepted, OneFilling}
 use Rattle.theorems.specs.Why.{Agreement}

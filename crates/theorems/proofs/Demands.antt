@@ -24,7 +24,7 @@ use Rattle.meaning.proofs.Outcome.{rows-are, rules-read, judge-verdict}
 use Rattle.meaning.proofs.First.{clear-none, clear-append, none-clear, numbered-append}
 use Rattle.meaning.proofs.Accepted.{starred-numbered, starred-formed}
 use Rattle.meaning.proofs.RuleCount.{words-length, words-append, translation-counted, few-rules}
-use Rattle.meaning.proofs.Answering.{check-first, expand-answered, value-answered, translate-answered, judge-first, judge-numbers}
+use Rattle.meaning.proofs.Outcome.{check-first, expand-answered, value-answered, translate-answered, judge-first, judge-numbers}
 use Rattle.theorems.specs.Demand2.{Demand2}
 use Rattle.theorems.specs.Filling.{others, Filling, Meets}
 use Rattle.theorems.specs.Demand3.{Accepted, Demand3}

@@ -10,12 +10,11 @@ use borrow.Author.Tests.{lt-leb}
 use Rattle.meaning.specs.Record.{Kind, constant, atom, modal, move, test, choice, sequence, star, shorthand, unknown}
 use Rattle.meaning.specs.Record.{core, Mode, diamond, box, Way, ahead, back, count, kindAt, fieldA, fieldB, columnsOf}
 use Rattle.meaning.specs.Rule.{Rule, previously, negated}
-use Rattle.meaning.specs.Translation.{label, sameRules, edgeRule, joinRules, testRules, moveRules, rulesOf, rulesAt}
-use Rattle.meaning.specs.Translation.{asserted, translation}
+use Rattle.meaning.specs.Translation.{label, sameRules, edgeRule, joinRules, testRules, moveRules, rulesOf, rulesAt, asserted, translation}
 use Rattle.meaning.specs.Refusal.{mostColumns, badLiteral, badRule}
 use Rattle.meaning.specs.WellFormed.{WellFormed}
 use Rattle.theorems.proofs.Shape.{modeAt, contAt, Shape}
-use Rattle.meaning.proofs.Literals.{marks}
+use Rattle.meaning.proofs.Holding.{marks}
 use Rattle.meaning.proofs.Runs.{All, all-append, all-each}
 
 -- Every rule of a list is in form, over W columns.

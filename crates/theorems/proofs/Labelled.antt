@@ -21,7 +21,7 @@ use Rattle.meaning.proofs.Modality.{modal-congruence, modal-choice, modal-seque
 use Rattle.meaning.proofs.Solution.{star-solves}
 use Rattle.theorems.proofs.Shape.{modeAt, contAt, Child, PathChild, Shape}
 use Rattle.theorems.proofs.Keeping.{Keeping}
-use Rattle.meaning.proofs.Literals.{literal-column, literal-false, literal-true}
+use Rattle.meaning.proofs.Holding.{literal-column, literal-false, literal-true}
 use Rattle.theorems.proofs.Saying.{same-says, join-says, test-says, move-says}
 
 -- What the label of record r is meant to be, by its sort, among the labels X.

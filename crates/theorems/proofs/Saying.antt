@@ -22,8 +22,7 @@ use Rattle.meaning.proofs.Reach.{Beside}
 use Rattle.meaning.proofs.Within.{joined, gate, edge}
 use Rattle.meaning.proofs.Modality.{modal-move, modal-edge}
 use Rattle.theorems.proofs.Keeping.{Kept, AllKept, Keeping, append-kept}
-use Rattle.meaning.proofs.Literals.{literal-false, literal-true, literal-previous, literal-negated}
-use Rattle.meaning.proofs.Holding.{literal-low, rule-holds}
+use Rattle.meaning.proofs.Holding.{literal-false, literal-true, literal-previous, literal-negated, literal-low, rule-holds}
 
 -- The negation of a value, as a difference.
 negation-value : (u : ℕ) → negation u ≡ 2 - 2 * u
