@@ -1,28 +1,28 @@
 -- Each service's grounds stand for its reasons. A ground's test holds exactly where the reason's plain fact is so; and the grounds are in the
 -- reasons' order: those of one record in turn, then of each record, then stage after stage.
-use Prim.Native.Nat.{ℕ, zero, suc, pred, _*_, _%_, _<_, _≤_}
+use Prim.Native.Nat.{ℕ, suc, pred, _<_, _≤_}
 use mathlib.Core.Path.{_≡_, refl, sym, _∙_}
 use mathlib.Core.Bool.{Bool, true, false, not, _&&_, _||_, true≢false}
 use mathlib.Core.Logic.{_⊎_, inl, inr, _↔_, _≢_, Iff·rfl, Iff·trans, ⊎-map}
 use mathlib.Core.List.{List, [], _∷_}
+use native.Mathlib.Nat.{le-refl}
 use native.Mathlib.Omega.{arith}
 use lib.ListN.{length}
 use lib.Dec.{leb, ltb, eqb}
 use borrow.Author.Tests.{ltb-true, lt-ltb, leb-true, le-leb}
-use Rattle.meaning.specs.Record.{Language, known, recordSize, mostRecords, count, zeroByte, fieldA, kindAt, Kind, star, Sort, formula, path}
-use Rattle.meaning.specs.Record.{sortOf, Use, unused, atomNumber, child, places, ahead, back, core, full}
-use Rattle.meaning.specs.Formula.{mayStand, goes}
-use Rattle.meaning.specs.Tree.{pathAt}
-use Rattle.meaning.specs.Rule.{ruleSize, ruleAt, ruleWord}
-use Rattle.meaning.specs.Refusal.{stray, late, beyond, differ, misfit, isStar, badLiteral, badRule, mostRules, ground1, ground2, ground3}
+use Rattle.meaning.specs.Record.{Language, count, kindAt, Kind, star, Sort, formula, path}
+use Rattle.meaning.specs.Record.{sortOf, Use, unused, atomNumber, child, places, core, full}
+use Rattle.meaning.specs.Rule.{ruleAt, ruleWord}
+use Rattle.meaning.specs.Refusal.{stray, late, beyond, differ, misfit, isStar, badLiteral, badRule, ground1, ground2, ground3}
 use Rattle.meaning.specs.Refusal.{ground4, ground5, ground6, ground6-last, ground7, ground8-cells, ground11, ground12, ground13}
 use Rattle.meaning.specs.Refusal.{ground13-length, Ground, mostAtoms, ground8, grounds9, ground10, ground14, recordGrounds, treeGrounds}
 use Rattle.meaning.specs.Refusal.{starGrounds, formulaGrounds, checkGrounds, expandGrounds, valueGrounds, translateGrounds, judgeGrounds}
-use Rattle.meaning.specs.Reason.{InField, WrongSize, WrongWord, WrongRule, given, position, positionOf, notOneParent, noRoom, RecordRefused}
+use Rattle.meaning.specs.Reason.{WrongSize, WrongWord, WrongRule, given, position, positionOf, notOneParent, noRoom, RecordRefused}
 use Rattle.meaning.specs.Reason.{TreeRefused, FormulaRefused, StarRefused, CellRefused, CheckRefused, ExpandRefused, ValueRefused}
 use Rattle.meaning.specs.Reason.{TranslateRefused, JudgeRefused, _when_}
 use Rattle.meaning.specs.Run.{each}
 use Rattle.meaning.specs.Judge.{ruleCount}
+use Rattle.meaning.proofs.Bounds.{below-suc}
 use Rattle.meaning.proofs.Cases.{by-kind}
 use Rattle.meaning.proofs.Fails.{and-holds, not-holds, eqb-holds, eqb-fails}
 use Rattle.meaning.proofs.RuleCount.{translation-counted}
@@ -49,6 +49,10 @@ unfolding differ
 differ-holds formula = elim [ formula ↦ never (λ n. absurd (n refl)) | path ↦ (λ e p. absurd (true≢false cc), λ n. refl) ]
 differ-holds path = elim [ formula ↦ (λ e p. absurd (true≢false cc), λ n. refl) | path ↦ never (λ n. absurd (n refl)) ]
 
+path-differs : (σ : Sort) → (differ formula σ ≡ true) ↔ (σ ≡ path)
+unfolding differ
+path-differs = elim [ formula ↦ never (λ e. cc) | path ↦ (λ e. refl, λ e. refl) ]
+
 unequal : (a b : ℕ) → (not (eqb a b) ≡ true) ↔ (a ≢ b)
 unequal a b = Iff·trans (not-holds (eqb a b)) (eqb-fails a b)
 
@@ -64,19 +68,14 @@ module _ {a b : Bool} {P Q : Type 0} (p : (a ≡ true) ↔ P) (q : (b ≡ true) 
   )
 
 -- Of three, one is so.
-pub one-of-three : {P Q R : Type 0} → ((P ⊎ Q) ⊎ R) ↔ (P ⊎ Q ⊎ R)
+one-of-three : {P Q R : Type 0} → ((P ⊎ Q) ⊎ R) ↔ (P ⊎ Q ⊎ R)
 one-of-three = (
   λ p. elim p [ inl q ↦ elim q [ inl a ↦ inl a | inr b ↦ inr (inl b) ] | inr c ↦ inr (inr c) ],
   λ p. elim p [ inl a ↦ inl (inl a) | inr q ↦ elim q [ inl b ↦ inl (inr b) | inr c ↦ inr c ] ],
 )
 
 -- ---- lengths and sizes
-pub length-applies : (s : List ℕ)
-    → (ground1 s .applies ≡ true) ↔ ((length s ≡ 0) ⊎ (length s % recordSize ≢ 0) ⊎ (recordSize * mostRecords < length s))
-unfolding ground1
-length-applies s = Iff·trans (either (either (eqb-holds _ _) (unequal _ _)) (ltb-holds _ _)) one-of-three
-
-pub sizes-apply : (most W L : ℕ) (cells : List ℕ) → (ground8-cells most W L cells .applies ≡ true) ↔ WrongSize most W L cells
+sizes-apply : (most W L : ℕ) (cells : List ℕ) → (ground8-cells most W L cells .applies ≡ true) ↔ WrongSize most W L cells
 unfolding ground8-cells
 sizes-apply most W L cells =
     Iff·trans (either (either (either (ltb-holds _ _) (eqb-holds _ _)) (ltb-holds _ _)) (unequal _ _))
@@ -99,38 +98,6 @@ field-applies s r A v (child σ) = (
   Iff·trans (differ-holds σ _) (λ n. (σ, refl, n), λ (τ, e, n) d. n (d ∙ cc)),
 )
 
--- ---- one record
-module _ (s : List ℕ) (r : ℕ) where
-  pub kind-applies : (ℓ : Language) → (ground2 ℓ s r .applies ≡ true) ↔ (known ℓ (kindAt s r) ≡ false)
-  unfolding ground2
-  kind-applies ℓ = not-holds _
-
-  pub zero-applies : (ground3 s r .applies ≡ true) ↔ ((zeroByte s r ≢ 0) ⊎ InField s r (λ u v. (u ≡ unused) × (v ≢ 0)))
-  unfolding ground3
-  zero-applies = Iff·trans (either (either (unequal _ _) (field-applies s r 0 _ _ .0)) (field-applies s r 0 _ _ .0)) one-of-three
-
-  pub late-child-applies : (ground4 s r .applies ≡ true) ↔ InField s r (λ u v. (σ : Sort) × (u ≡ child σ) × (r ≤ v))
-  unfolding ground4
-  late-child-applies = either (field-applies s r 0 _ _ .1) (field-applies s r 0 _ _ .1)
-
-  pub atom-applies : (A : ℕ) → (ground5 s A r .applies ≡ true) ↔ InField s r (λ u v. (u ≡ atomNumber) × (A ≤ v))
-  unfolding ground5
-  atom-applies A = either (field-applies s r A _ _ .2) (field-applies s r A _ _ .2)
-
-  pub sort-applies : (ground6 s r .applies ≡ true) ↔ InField s r (λ u v. (σ : Sort) × (u ≡ child σ) × (sortOf (kindAt s v) ≢ σ))
-  unfolding ground6
-  sort-applies = either (field-applies s r 0 _ _ .3) (field-applies s r 0 _ _ .3)
-
-  pub parents-apply : (ground7 s r .applies ≡ true) ↔ (places s r ≢ 1)
-  unfolding ground7
-  parents-apply = unequal _ _
-
--- The last record: not a formula, so a path.
-pub last-applies : (s : List ℕ) → (ground6-last s .applies ≡ true) ↔ (sortOf (kindAt s (pred (count s))) ≡ path)
-unfolding ground6-last differ
-last-applies s = elim (sortOf (kindAt s (pred (count s)))) as (λ σ. (differ formula σ ≡ true) ↔ (σ ≡ path))
-    [ formula ↦ never (λ e. cc) | path ↦ (λ e. refl, λ e. refl) ]
-
 -- ---- stars
 star-is : (K : Kind) → (isStar K ≡ true) ↔ (K ≡ star)
 unfolding isStar
@@ -138,69 +105,40 @@ star-is =
     by-kind _ (λ v. never (λ e. cc)) (never (λ e. cc)) (λ m. never (λ e. cc)) (λ w. never (λ e. cc)) (never (λ e. cc)) (never (λ e. cc))
     (never (λ e. cc)) (λ e. refl, λ e. refl) (λ σ. never (λ e. cc)) (never (λ e. cc))
 
-module _ (s : List ℕ) (r : ℕ) where
-  pub turns-apply : (ground12 s r .applies ≡ true)
-      ↔ ((kindAt s r ≡ star) × (goes ahead (pathAt s (fieldA s r)) ≡ true) × (goes back (pathAt s (fieldA s r)) ≡ true))
-  unfolding ground12
-  turns-apply = Iff·trans (both (star-is _) (both Iff·rfl Iff·rfl)) (λ (k, (a, b)). (k, a, b), λ (k, a, b). (k, (a, b)))
-
-  pub stands-apply : (ground11 s r .applies ≡ true) ↔ ((kindAt s r ≡ star) × (mayStand (pathAt s (fieldA s r)) ≡ true))
-  unfolding ground11
-  stands-apply = both (star-is _) Iff·rfl
-
 -- ---- rules
-pub words-apply : (ws : List ℕ)
-    → (ground13-length ws .applies ≡ true) ↔ ((length ws % ruleSize ≢ 0) ⊎ (ruleSize * mostRules < length ws))
-unfolding ground13-length
-words-apply ws = either (unequal _ _) (ltb-holds _ _)
-
 word-applies : (W place w : ℕ) → (badLiteral W place w ≡ true) ↔ WrongWord W place w
 unfolding badLiteral
 word-applies W place w = either (leb-holds _ _) (both Iff·rfl (unequal _ _))
 
--- One of the words 1 to 5, or something else.
-one-of-five : (P : Type 0) (F : ℕ → Type 0)
-    → ((((((P ⊎ F 1) ⊎ F 2) ⊎ F 3) ⊎ F 4) ⊎ F 5) ↔ (P ⊎ ((j : ℕ) × (0 < j) × (j < ruleSize) × F j)))
-one-of-five P F = (to, λ i. elim i [ inl p ↦ inl (inl (inl (inl (inl p)))) | inr (j, a, b, f) ↦ from j a b f ])
-  where
-    to : (((((P ⊎ F 1) ⊎ F 2) ⊎ F 3) ⊎ F 4) ⊎ F 5) → P ⊎ ((j : ℕ) × (0 < j) × (j < ruleSize) × F j)
-    to (inr f) = inr (5, omega arith, omega arith, f)
-    to (inl (inr f)) = inr (4, omega arith, omega arith, f)
-    to (inl (inl (inr f))) = inr (3, omega arith, omega arith, f)
-    to (inl (inl (inl (inr f)))) = inr (2, omega arith, omega arith, f)
-    to (inl (inl (inl (inl (inr f))))) = inr (1, omega arith, omega arith, f)
-    to (inl (inl (inl (inl (inl p))))) = inl p
+-- Something, or a number of which F is so; no number, and one more.
+none-more : {a : Bool} {P : Type 0} (F : ℕ → Type 0) → ((a ≡ true) ↔ P) → (a ≡ true) ↔ (P ⊎ ((j : ℕ) × (0 < j) × (j < 1) × F j))
+none-more F p = (λ e. inl (p .0 e), λ i. elim i [ inl x ↦ p .1 x | inr (j, a, b, f) ↦ absurd (omega arith) ])
 
-    from : (j : ℕ) → 0 < j → j < ruleSize → F j → ((((P ⊎ F 1) ⊎ F 2) ⊎ F 3) ⊎ F 4) ⊎ F 5
-    from zero a b f = absurd (omega arith)
-    from (suc zero) a b f = inl (inl (inl (inl (inr f))))
-    from (suc (suc zero)) a b f = inl (inl (inl (inr f)))
-    from (suc (suc (suc zero))) a b f = inl (inl (inr f))
-    from (suc (suc (suc (suc zero)))) a b f = inl (inr f)
-    from (suc (suc (suc (suc (suc zero))))) a b f = inr f
-    from (suc (suc (suc (suc (suc (suc j)))))) a b f = absurd (omega arith)
+one-more : {a b : Bool} {P : Type 0} (F : ℕ → Type 0) (n : ℕ) → 0 < n → ((a ≡ true) ↔ (P ⊎ ((j : ℕ) × (0 < j) × (j < n) × F j)))
+    → ((b ≡ true) ↔ F n) → ((a || b) ≡ true) ↔ (P ⊎ ((j : ℕ) × (0 < j) × (j < suc n) × F j))
+one-more F n z p q = Iff·trans (either p q) (
+  λ i. elim i [ inl (inl x) ↦ inl x | inl (inr (j, a, b, f)) ↦ inr (j, a, omega arith, f) | inr f ↦ inr (n, z, le-refl _, f) ],
+  λ i. elim i [ inl x ↦ inl (inl x) | inr (j, a, b, f) ↦ elim (below-suc b) [ inl e ↦ inr (rw e at f) | inr l ↦ inl (inr (j, a, l, f)) ] ],
+)
 
-module _ (ws : List ℕ) (W i : ℕ) where
-  word-test : (j : ℕ) → (badLiteral W (ruleWord ws i 0) (ruleWord ws i j) ≡ true) ↔ WrongWord W (ruleWord ws i 0) (ruleWord ws i j)
-  word-test j = word-applies W _ _
-
-  pub rule-applies : (ground13 ws W i .applies ≡ true) ↔ WrongRule ws W i
-  unfolding ground13 badRule ruleAt
-  rule-applies =
-      Iff·trans
-      (either (either (either (either (either (ltb-holds _ _) (word-test 1)) (word-test 2)) (word-test 3)) (word-test 4)) (word-test 5))
-      (one-of-five _ (λ j. WrongWord W (ruleWord ws i 0) (ruleWord ws i j)))
+rule-applies : (ws : List ℕ) (W i : ℕ) → (ground13 ws W i .applies ≡ true) ↔ WrongRule ws W i
+unfolding ground13 badRule ruleAt
+rule-applies ws W i =
+    let F : ℕ → Type 0 = λ j. WrongWord W (ruleWord ws i 0) (ruleWord ws i j) in
+    one-more F 5 (omega arith) (one-more F 4 (omega arith) (one-more F 3 (omega arith) (one-more F 2 (omega arith) (one-more F 1 (omega arith)
+    (none-more F (ltb-holds _ _)) (word-applies W _ _)) (word-applies W _ _)) (word-applies W _ _)) (word-applies W _ _)) (word-applies W _ _)
 
 -- ---- records
 module _ (ℓ : Language) (s : List ℕ) (A : ℕ) where
   record-ordered : (r : ℕ) → Ordered (recordGrounds ℓ s A r) (RecordRefused ℓ s A r) (position 2 r 0) (position 2 r 4)
   unfolding recordGrounds ground2 ground3 ground4 ground5 ground6 given positionOf
   record-ordered r =
-      ordered-cons refl (omega arith) (kind-applies s r ℓ)
-      (ordered-cons refl (omega arith) (zero-applies s r)
-      (ordered-cons refl (omega arith) (late-child-applies s r)
-      (ordered-cons refl (omega arith) (atom-applies s r A)
-      (ordered-one refl (omega arith) (sort-applies s r)) (omega arith)) (omega arith)) (omega arith)) (omega arith)
+      let field = field-applies s r A in
+      ordered-cons refl (omega arith) (not-holds _)
+      (ordered-cons refl (omega arith) (Iff·trans (either (either (unequal _ _) (field _ _ .0)) (field _ _ .0)) one-of-three)
+      (ordered-cons refl (omega arith) (either (field _ _ .1) (field _ _ .1))
+      (ordered-cons refl (omega arith) (either (field _ _ .2) (field _ _ .2))
+      (ordered-one refl (omega arith) (either (field _ _ .3) (field _ _ .3))) (omega arith)) (omega arith)) (omega arith)) (omega arith)
 
   -- A record before the last.
   parents-ordered : (n : ℕ) → Ordered (each (pred n) (λ r. ground7 s r ∷ []))
@@ -208,20 +146,20 @@ module _ (ℓ : Language) (s : List ℕ) (A : ℕ) where
   unfolding ground7 given positionOf
   parents-ordered n =
       ordered-same (λ ρ. (λ (r, l, w). (r, omega arith, w), λ (r, l, w). (r, omega arith, w))) (omega arith)
-      (ordered-each 4 0 (λ r. ordered-one refl (omega arith) (parents-apply s r)) (pred n))
+      (ordered-each 4 0 (λ r. ordered-one refl (omega arith) (unequal _ _)) (pred n))
 
   tree-ordered : Ordered (treeGrounds ℓ s A) (TreeRefused ℓ s A) (position 2 0 0) (position 5 0 0)
   unfolding treeGrounds ground6-last given positionOf
   tree-ordered =
       ordered-append (ordered-each 2 4 record-ordered (count s))
-      (ordered-cons refl (omega arith) (last-applies s) (parents-ordered (count s)) (omega arith)) (omega arith)
+      (ordered-cons refl (omega arith) (path-differs _) (parents-ordered (count s)) (omega arith)) (omega arith)
 
   -- With the ground 8 of the service.
   formula-ordered : (g : Ground) (sizes : Type 0) → g .number ≡ 8 → ((g .applies ≡ true) ↔ sizes)
       → Ordered (ground1 s ∷ g ∷ treeGrounds ℓ s A) (FormulaRefused ℓ s A sizes) (position 0 0 0) (position 5 0 0)
   unfolding ground1 given positionOf
   formula-ordered g sizes eight fact =
-      ordered-cons refl (omega arith) (length-applies s)
+      ordered-cons refl (omega arith) (Iff·trans (either (either (eqb-holds _ _) (unequal _ _)) (ltb-holds _ _)) one-of-three)
       (ordered-cons eight (omega arith) fact tree-ordered (omega arith)) (omega arith)
 
 -- ---- traces and buffers
@@ -261,7 +199,9 @@ module _ (s : List ℕ) (A : ℕ) where
   unfolding starGrounds ground11 ground12 given positionOf
   stars-ordered =
       ordered-each 5 1
-      (λ r. ordered-cons refl (omega arith) (turns-apply s r) (ordered-one refl (omega arith) (stands-apply s r)) (omega arith))
+      (λ r. ordered-cons refl (omega arith)
+      (Iff·trans (both (star-is _) (both Iff·rfl Iff·rfl)) (λ (k, (a, b)). (k, a, b), λ (k, a, b). (k, (a, b))))
+      (ordered-one refl (omega arith) (both (star-is _) Iff·rfl)) (omega arith))
       (count s)
 
   pub translate-ordered : (room : ℕ)
@@ -277,6 +217,6 @@ pub judge-ordered : (ws : List ℕ) (W L : ℕ) (cells : List ℕ)
 unfolding judgeGrounds ground8-cells ground13-length ground13 given positionOf
 judge-ordered ws W L cells =
     ordered-cons refl (omega arith) (sizes-apply _ W L cells)
-    (ordered-cons refl (omega arith) (words-apply ws)
+    (ordered-cons refl (omega arith) (either (unequal _ _) (ltb-holds _ _))
     (ordered-append (ordered-each 8 0 (λ i. ordered-one refl (omega arith) (rule-applies ws W i)) (ruleCount ws))
     (cells-ordered cells) (omega arith)) (omega arith)) (omega arith)
