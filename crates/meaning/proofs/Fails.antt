@@ -3,8 +3,8 @@ use Prim.Native.Nat.{ℕ, _<_}
 use mathlib.Core.Path.{_≡_, refl, sym}
 use mathlib.Core.Bool.{Bool, true, false, not, _&&_, _||_, true≢false}
 use mathlib.Core.Logic.{_≢_, _↔_}
-use lib.Dec.{leb, eqb}
-use borrow.Author.Tests.{leb-false, eqb-true, eqb-false, not-true, not-false, lt-leb, eq-eqb, ne-eqb}
+use lib.Dec.{leb, ltb, eqb}
+use borrow.Author.Tests.{ltb-true, lt-ltb, leb-false, eqb-true, eqb-false, not-true, not-false, lt-leb, eq-eqb, ne-eqb}
 use Rattle.meaning.specs.Record.{Sort, formula, path}
 use Rattle.meaning.specs.Refusal.{differ}
 
@@ -31,6 +31,9 @@ eqb-holds a b = (eqb-true a b, eq-eqb a b)
 
 pub eqb-fails : (a b : ℕ) → (eqb a b ≡ false) ↔ (a ≢ b)
 eqb-fails a b = (eqb-false a b, ne-eqb a b)
+
+pub ltb-holds : (a b : ℕ) → (ltb a b ≡ true) ↔ (a < b)
+ltb-holds a b = (ltb-true a b, lt-ltb a b)
 
 pub leb-fails : (a b : ℕ) → (leb a b ≡ false) ↔ (b < a)
 leb-fails a b = (leb-false a b, lt-leb a b)

@@ -1,6 +1,6 @@
 -- The implication is the right adjoint of the smaller of two: t is at most the implication of v by u exactly if the
 -- smaller of t and u is at most v. Either u ≤ v, and both hold of every value t; or v < u, and both say that t ≤ v.
-use Prim.Native.Nat.{ℕ, _≤_, _<_, min}
+use Prim.Native.Nat.{ℕ, zero, suc, _-_, _*_, _≤_, _<_, min}
 use mathlib.Core.Path.{_≡_, refl}
 use mathlib.Core.Logic.{_↔_, _⊎_, inl, inr}
 use native.Mathlib.Omega.{arith}
@@ -37,12 +37,8 @@ imp-two v b = elim (by-comparison 2 v) [ inl c ↦ omega arith | inr c ↦ omega
 pub imp-is-two : (u v : ℕ) → u ≤ 2 → (imp u v ≡ 2) ↔ (u ≤ v)
 imp-is-two u v b = elim (by-comparison u v) [ inl c ↦ (omega arith, omega arith) | inr c ↦ (omega arith, omega arith) ]
 
--- The negation of 0 is 2.
-pub negation-zero : negation 0 ≡ 2
+-- The negation of a value, as a difference.
+pub negation-value : (u : ℕ) → negation u ≡ 2 - 2 * u
 unfolding negation
-negation-zero = refl
-
--- The negation of every other value is 0.
-pub negation-positive : (u : ℕ) → 0 < u → negation u ≡ 0
-unfolding negation
-negation-positive u h = rw (ne-eqb u 0 (omega arith))
+negation-value zero = refl
+negation-value (suc u) = rw (ne-eqb (suc u) 0 (omega arith)) (omega arith)

@@ -52,11 +52,6 @@ pub record Ordered (gs : List Ground) (In : Reason → Type 0) (lo hi : Position
 pub first-of : {gs : List Ground} {In : Reason → Type 0} {lo hi : Position} → Ordered gs In lo hi → First In (firstOf gs)
 first-of o = record { none = o .none; some = o .some }
 
--- A list of none.
-ordered-none : (lo hi : Position) → Ordered [] (λ ρ. ⊥) lo hi
-unfolding ofFirst
-ordered-none lo hi = record { numbered = tt; none = λ e ρ i. i; some = λ n. absurd (n refl); from = λ ρ i. absurd i; upto = λ ρ i. absurd i }
-
 -- One ground, whose test is the reason's fact.
 pub ordered-one : {g : Ground} {σ : Reason} {P : Type 0} → g .number ≡ given σ → 0 < given σ → ((g .applies ≡ true) ↔ P)
     → Ordered (g ∷ []) (σ when P) (positionOf σ) (positionOf σ)
@@ -116,9 +111,14 @@ ordered-cons number some fact o = ordered-append (ordered-one number some fact) 
 pub ordered-each : {f : ℕ → List Ground} {In : ℕ → Reason → Type 0} (stage turn : ℕ)
     → ((i : ℕ) → Ordered (f i) (In i) (position stage i 0) (position stage i turn))
     → (n : ℕ) → Ordered (each n f) (λ ρ. (i : ℕ) × (i < n) × In i ρ) (position stage 0 0) (position stage n 0)
-unfolding each
-ordered-each stage turn one zero =
-    ordered-same (λ ρ. (λ i. absurd i, λ (i, l, _). absurd (omega arith))) (omega arith) (ordered-none _ (position stage 0 0))
+unfolding each ofFirst
+ordered-each stage turn one zero = record {
+  numbered = tt;
+  none = λ e ρ (i, l, _). omega arith;
+  some = λ n. absurd (n refl);
+  from = λ ρ (i, l, _). absurd (omega arith);
+  upto = λ ρ (i, l, _). absurd (omega arith);
+}
 ordered-each stage turn one (suc n) =
     ordered-same
     (λ ρ. (

@@ -32,10 +32,10 @@ use Rattle.meaning.proofs.Atoms.{formAtoms}
 use Rattle.meaning.proofs.Postorder.{form-part}
 use Rattle.meaning.proofs.RuleCount.{words-length, translation-counted}
 use Rattle.meaning.proofs.Ordered.{first-of}
-use Rattle.meaning.proofs.Refusing.{check-ordered, expand-ordered, value-ordered, translate-ordered, judge-ordered, ltb-holds}
+use Rattle.meaning.proofs.Refusing.{check-ordered, expand-ordered, value-ordered, translate-ordered, judge-ordered}
 use Rattle.meaning.proofs.Nodes.{either-sort}
 use Rattle.meaning.proofs.Reading.{reading, same-value}
-use Rattle.meaning.proofs.Fails.{eqb-holds}
+use Rattle.meaning.proofs.Fails.{eqb-holds, ltb-holds}
 use Rattle.meaning.proofs.Holding.{rule-holds, literal-false, literal-true, literal-column, literal-previous, literal-negated}
 use Rattle.meaning.proofs.Judging.{yes-means, no-means}
 

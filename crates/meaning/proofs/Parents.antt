@@ -56,15 +56,10 @@ module _ (s : List ℕ) (q p : ℕ) where
   unfolding uses
   first-used a = omega (arith, child-names _ _ q a)
 
-  -- so does one that has it in its second,
+  -- and so does one that has it in its second.
   pub second-used : InSecond s q p → 0 < uses s q p
   unfolding uses
   second-used b = omega (arith, child-names _ _ q b)
-
-  -- and one that has it in both names it twice.
-  both-used : InFirst s q p → InSecond s q p → 2 ≤ uses s q p
-  unfolding uses
-  both-used a b = omega (arith, child-names _ _ q a, child-names _ _ q b)
 
 -- ---- places
 module _ (s : List ℕ) (q : ℕ) where
@@ -117,6 +112,7 @@ module _ {ℓ : Language} {s : List ℕ} {A : ℕ} (w : WellFormed ℓ s A) wher
 
     -- and names it in one field alone.
     pub one-field : InFirst s q p → InSecond s q p → ⊥
+    unfolding uses
     one-field a b =
         let e = child-earlier (first-used s q p a) in
-        omega (arith, both-used s q p a b, uses-count s q (count s) p l, w .once q (omega arith))
+        omega (arith, child-names _ _ q a, child-names _ _ q b, uses-count s q (count s) p l, w .once q (omega arith))

@@ -82,7 +82,7 @@ module _ {L : ℕ} {cell : ℕ → ℕ → ℕ} {v w : Form → Row} {s t : Path
   same-passes : (p : Path) → ((k j : ℕ) → k < L → j < L → s p k j ≡ t p k j) → (n k j : ℕ) → k < L → j < L → a p n k j ≡ b p n k j
   same-passes p h zero k j l m = elim (ℕ-discrete j k) [
     | yes e ↦ rw e (R .no-pass p k l ∙ sym (S .no-pass p k l))
-    | no d ↦ R .no-pass-elsewhere p k j l m d ∙ sym (S .no-pass-elsewhere p k j l m d)
+    | no d ↦ cc (R .no-pass-elsewhere p k j l m d, S .no-pass-elsewhere p k j l m d)
   ]
   same-passes p h (suc n) k j l m =
       greatest-one (R .one-more p n k j l m) (S .one-more p n k j l m) (λ i o. rw (h k i l o, same-passes p h n i j o m))
@@ -98,14 +98,10 @@ module _ {L : ℕ} {cell : ℕ → ℕ → ℕ} {v w : Form → Row} {s t : Path
         least-one (R .boxes p f k l) (S .boxes p f k l) (λ j m. rw (same-square p k j l m, same-value f j m))
 
     same-square : (p : Path) (k j : ℕ) → k < L → j < L → s p k j ≡ t p k j
-    same-square (move ahead) k j l m = elim (ℕ-discrete j (suc k)) [
-      | yes e ↦ R .step k j l m e ∙ sym (S .step k j l m e)
-      | no d ↦ R .no-step k j l m d ∙ sym (S .no-step k j l m d)
-    ]
-    same-square (move back) k j l m = elim (ℕ-discrete k (suc j)) [
-      | yes e ↦ R .back-step k j l m e ∙ sym (S .back-step k j l m e)
-      | no d ↦ R .no-back-step k j l m d ∙ sym (S .no-back-step k j l m d)
-    ]
+    same-square (move ahead) k j l m = elim (ℕ-discrete j (suc k))
+        [ yes e ↦ cc (R .step k j l m e, S .step k j l m e) | no d ↦ cc (R .no-step k j l m d, S .no-step k j l m d) ]
+    same-square (move back) k j l m = elim (ℕ-discrete k (suc j))
+        [ yes e ↦ cc (R .back-step k j l m e, S .back-step k j l m e) | no d ↦ cc (R .no-back-step k j l m d, S .no-back-step k j l m d) ]
     same-square (test f) k j l m = elim (ℕ-discrete j k) [
       | yes e ↦ rw e (R .tests f k l ∙ (same-value f k l ∙ sym (S .tests f k l)))
       | no d ↦ R .no-test f k j l m d ∙ sym (S .no-test f k j l m d)

@@ -8,8 +8,8 @@ use mathlib.Core.List.{List, [], _∷_}
 use native.Mathlib.Nat.{le-refl}
 use native.Mathlib.Omega.{arith}
 use lib.ListN.{length}
-use lib.Dec.{leb, ltb, eqb}
-use borrow.Author.Tests.{ltb-true, lt-ltb, leb-true, le-leb}
+use lib.Dec.{leb, eqb}
+use borrow.Author.Tests.{leb-true, le-leb}
 use Rattle.meaning.specs.Record.{Language, count, kindAt, Kind, star, Sort, formula, path}
 use Rattle.meaning.specs.Record.{sortOf, Use, unused, atomNumber, child, places, core, full}
 use Rattle.meaning.specs.Rule.{ruleAt, ruleWord}
@@ -24,7 +24,7 @@ use Rattle.meaning.specs.Run.{each}
 use Rattle.meaning.specs.Judge.{ruleCount}
 use Rattle.meaning.proofs.Bounds.{below-suc}
 use Rattle.meaning.proofs.Cases.{by-kind}
-use Rattle.meaning.proofs.Fails.{and-holds, not-holds, eqb-holds, eqb-fails}
+use Rattle.meaning.proofs.Fails.{and-holds, not-holds, eqb-holds, eqb-fails, ltb-holds}
 use Rattle.meaning.proofs.RuleCount.{translation-counted}
 use Rattle.meaning.proofs.Ordered.{Ordered, ordered-one, ordered-cons, ordered-same, ordered-append, ordered-each}
 
@@ -33,9 +33,6 @@ use Rattle.meaning.proofs.Ordered.{Ordered, ordered-one, ordered-cons, 
 or-holds : (a b : Bool) → ((a || b) ≡ true) ↔ ((a ≡ true) ⊎ (b ≡ true))
 or-holds true b = (λ e. inl refl, λ p. refl)
 or-holds false b = (inr, λ p. elim p [ inl e ↦ absurd (true≢false (sym e)) | inr e ↦ e ])
-
-pub ltb-holds : (a b : ℕ) → (ltb a b ≡ true) ↔ (a < b)
-ltb-holds a b = (ltb-true a b, lt-ltb a b)
 
 leb-holds : (a b : ℕ) → (leb a b ≡ true) ↔ (a ≤ b)
 leb-holds a b = (leb-true a b, le-leb a b)

@@ -2,36 +2,24 @@
 -- what is after a test; or the row of a move over the continuation. A rule says that one value is at most another, and
 -- two such make an equation. The rules of a move compare an instant with the one beside it, and its third rule is for
 -- the instant that has none beside it.
-use Prim.Native.Nat.{ℕ, zero, suc, pred, _+_, _*_, _-_, _≤_, _<_, min, max}
+use Prim.Native.Nat.{ℕ, suc, pred, _+_, _≤_, _<_, min, max}
 use mathlib.Core.Path.{_≡_, refl, sym, _∙_}
 use mathlib.Core.Bool.{true}
 use mathlib.Core.List.{[], _∷_, _++_}
 use mathlib.Core.Logic.{_↔_, Iff·trans, inl, inr}
 use native.Mathlib.Omega.{arith}
-use lib.Dec.{ltb}
-use borrow.Author.Tests.{ltb-true, lt-ltb}
-use Rattle.meaning.specs.Three.{negation}
 use Rattle.meaning.specs.Record.{Mode, diamond, box, Way, ahead, back}
 use Rattle.meaning.specs.Value.{Row, moveSquare, modalRow}
 use Rattle.meaning.specs.Rule.{Rule, placed, literal, bodyValue, headValue}
 use Rattle.meaning.specs.Translation.{sameRules, edgeRule, joinRules, testRules, moveRules}
-use Rattle.meaning.proofs.Fails.{eqb-holds}
-use Rattle.meaning.proofs.Implication.{by-comparison, negation-zero, negation-positive}
+use Rattle.meaning.proofs.Fails.{eqb-holds, ltb-holds}
+use Rattle.meaning.proofs.Implication.{by-comparison, negation-value}
 use Rattle.meaning.proofs.Bounds.{le-or-lt}
 use Rattle.meaning.proofs.Reach.{Beside}
 use Rattle.meaning.proofs.Within.{joined, gate, edge}
 use Rattle.meaning.proofs.Modality.{modal-move, modal-edge}
 use Rattle.theorems.proofs.Keeping.{Kept, AllKept, Keeping, append-kept}
 use Rattle.meaning.proofs.Holding.{literal-false, literal-true, literal-previous, literal-negated, literal-low, rule-holds}
-
--- The negation of a value, as a difference.
-negation-value : (u : ℕ) → negation u ≡ 2 - 2 * u
-negation-value zero = negation-zero
-negation-value (suc u) = omega (arith, negation-positive (suc u) (omega arith))
-
--- A test of numbers.
-ltb-holds : (a b : ℕ) → (ltb a b ≡ true) ↔ (a < b)
-ltb-holds a b = (ltb-true a b, lt-ltb a b)
 
 -- The words that a rule leaves unused: 0 in a head, 1, which is worth 2, in a body.
 max-zero : (u : ℕ) → max u 0 ≡ u
