@@ -10,8 +10,7 @@ use mathlib.Core.Bool.{true≢false}
 use mathlib.Core.List.{List}
 use mathlib.Core.Logic.{_⊎_, inl, inr, _↔_}
 use native.Mathlib.Omega.{arith}
-use Rattle.meaning.specs.Record.{Kind, columnsOf, core, count, kindAt}
-use Rattle.meaning.specs.Record.{fieldA, fieldB, Sort, formula, path, sortOf, Mode, child, useA, useB, parent}
+use Rattle.meaning.specs.Record.{Kind, columnsOf, core, count, kindAt, fieldA, fieldB, Sort, formula, path, sortOf, Mode, child, useA, useB, parent}
 use Rattle.meaning.specs.WellFormed.{WellFormed}
 use Rattle.meaning.specs.Value.{Row}
 use Rattle.meaning.proofs.Cases.{by-kind}

@@ -20,9 +20,8 @@ use Rattle.meaning.proofs.Within.{joined, gate}
 use Rattle.meaning.proofs.Modality.{modal-congruence, modal-choice, modal-sequence, modal-test}
 use Rattle.meaning.proofs.Solution.{star-solves}
 use Rattle.theorems.proofs.Shape.{modeAt, contAt, Child, PathChild, Shape}
-use Rattle.theorems.proofs.Keeping.{Keeping}
+use Rattle.theorems.proofs.Saying.{Keeping, same-says, join-says, test-says, move-says}
 use Rattle.meaning.proofs.Holding.{literal-column, literal-false, literal-true}
-use Rattle.theorems.proofs.Saying.{same-says, join-says, test-says, move-says}
 
 -- What the label of record r is meant to be, by its sort, among the labels X.
 unfoldable pub meant : List ℕ → ℕ → (ℕ → ℕ → ℕ) → Sort → (ℕ → Row) → ℕ → Row

@@ -1,12 +1,10 @@
 -- The proofs of the demands.
 pub mod Shape
-pub mod Keeping
 pub mod Saying
 pub mod Labelled
 pub mod Determined
 pub mod OneFilling
 pub mod Why
-pub mod InForm
 pub mod Agreement
 pub mod Paper
 pub mod Expander

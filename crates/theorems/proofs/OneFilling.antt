@@ -12,9 +12,9 @@ use lib.Seq.{ext-getD}
 use lib.Dec.{ltb}
 use borrow.Author.Tests.{lt-ltb, le-ltb, eqb-true}
 use Rattle.meaning.specs.Run.{each, tabulate, cellOf}
-use Rattle.meaning.specs.Record.{core, count, kindAt, box, formula, path, sortOf}
-use Rattle.meaning.specs.Tree.{formAt, pathAt}
-use Rattle.meaning.specs.Value.{Row, valueOf, squareOf, modalRow}
+use Rattle.meaning.specs.Record.{core, count, kindAt, box, Sort, formula, path, sortOf}
+use Rattle.meaning.specs.Tree.{formAt}
+use Rattle.meaning.specs.Value.{Row, valueOf}
 use Rattle.meaning.specs.Rule.{words, placed}
 use Rattle.meaning.specs.Translation.{label, edgeRule, rulesAt, asserted, translation}
 use Rattle.meaning.specs.Judge.{AllHold}
@@ -24,9 +24,8 @@ use Rattle.meaning.proofs.Runs.{length-each, getD-each, length-tabulate, getD-t
 use Rattle.meaning.proofs.Within.{edge}
 use Rattle.theorems.specs.Filling.{Filling, labelOf, Meets}
 use Rattle.theorems.specs.Demand3.{OneFilling}
-use Rattle.theorems.proofs.Shape.{modeAt, contAt, Shape}
-use Rattle.theorems.proofs.Keeping.{Keeping, all-hold, append-kept, each-keeping}
-use Rattle.theorems.proofs.Saying.{edge-placed}
+use Rattle.theorems.proofs.Shape.{Shape}
+use Rattle.theorems.proofs.Saying.{Keeping, all-hold, append-kept, each-keeping, edge-placed}
 use Rattle.theorems.proofs.Labelled.{meant, Right, literal-label, all-settled}
 use Rattle.theorems.proofs.Determined.{solution, solution-low, determined}
 
@@ -86,17 +85,10 @@ module _ {s : List ℕ} {A L : ℕ} {cells : List ℕ} (w : WellFormed core s A)
       λ h k l. (h .0 k l, h .1 k l),
     )
 
-    -- Where it meets the rules: the label of a formula, and of a path.
-    label-formula : Meets s A L f → (r k : ℕ) → r < n → k < L → sortOf (kindAt s r) ≡ formula
-        → labelOf A n f r k ≡ valueOf L (cellOf A cells) (formAt s r) k
-    unfolding meant
-    label-formula h r k l i e = rw e at (meets-right .0 h r l k i)
-
-    label-path : Meets s A L f → (r k : ℕ) → r < n → k < L → sortOf (kindAt s r) ≡ path
-        → labelOf A n f r k
-        ≡ modalRow (modeAt s r) L (squareOf L (cellOf A cells) (pathAt s r)) (labelOf A n f (contAt s r)) k
-    unfolding meant
-    label-path h r k l i e = rw e at (meets-right .0 h r l k i)
+    -- Where it meets the rules, each label is what is meant, by its sort.
+    label-sorted : Meets s A L f → (σ : Sort) (r k : ℕ) → r < n → k < L → sortOf (kindAt s r) ≡ σ
+        → labelOf A n f r k ≡ meant s L (cellOf A cells) σ (labelOf A n f) r k
+    label-sorted h σ r k l i e = rw e at (meets-right .0 h r l k i)
 
   -- ---- the filling
   -- Cell i of row k: the trace's cells, and then the right labels.
@@ -151,13 +143,14 @@ module _ {s : List ℕ} {A L : ℕ} {cells : List ℕ} (w : WellFormed core s A)
 
   -- ---- the theorem
   pub one-filling : OneFilling s A L cells
+  unfolding meant
   one-filling = record {
     filling = filled;
     fills = filled-fills;
     meets = filled-meets;
     only = λ f φ h. same-filling φ filled-fills (λ r k l i. meets-solution φ .0 h r k l i ∙ sym (filled-label r k l i));
-    formulas = label-formula filled-fills filled-meets;
-    paths = label-path filled-fills filled-meets;
+    formulas = label-sorted filled-fills filled-meets formula;
+    paths = label-sorted filled-fills filled-meets path;
     asserted = (
       λ (f, φ, h). let (m, e) = translation-kept φ .0 h in sym (last φ m) ∙ e,
       λ e. (filled, filled-fills, translation-kept filled-fills .1 (filled-meets, last filled-fills filled-meets ∙ e)),
@@ -166,4 +159,4 @@ module _ {s : List ℕ} {A L : ℕ} {cells : List ℕ} (w : WellFormed core s A)
     where
       last : {f : List ℕ} (φ : Filling A n L cells f) → Meets s A L f
           → labelOf A n f (pred n) 0 ≡ valueOf L (cellOf A cells) (formAt s (pred n)) 0
-      last φ m = label-formula φ m (pred n) 0 (omega arith) (trace .some) (w .last)
+      last φ m = label-sorted φ m formula (pred n) 0 (omega arith) (trace .some) (w .last)

@@ -4,7 +4,7 @@
 -- implication of values. So one law serves both traces: if a trace's atoms are those worth at least v, and its total trace's those worth at
 -- least 1, then what it satisfies is what is worth at least v. By induction on formulas and paths, for all such traces at once, since a box
 -- looks at the total trace too. The given trace has v = 2, and the total one 1.
-use Prim.Native.Nat.{ℕ, zero, suc, _<_, _≤_, max}
+use Prim.Native.Nat.{ℕ, zero, suc, _<_, _≤_}
 use mathlib.Core.Path.{_≡_, sym, refl}
 use mathlib.Core.Logic.{_↔_, _⊎_, inl, inr, Iff·trans, Iff·and, _≢_, Iff·rfl, Iff·symm}
 use mathlib.Core.Bool.{true, false}
@@ -32,10 +32,6 @@ abbrev pub Level : ℕ → ℕ → Relation → Square → Type 0
 Level L v R p = (k j : ℕ) → R k j ↔ ((k < L) × (j < L) × (v ≤ p k j))
 
 -- ---- numbers
--- At most the greater of two: at most one of them.
-max-level : (v a b : ℕ) → v ≤ max a b → (v ≤ a) ⊎ (v ≤ b)
-max-level v a b h = elim (le-or-lt v a) [ inl l ↦ inl l | inr l ↦ inr (omega arith) ]
-
 -- At most an implication: from premise to conclusion up to v, and up to 1.
 imp-level : (v a b : ℕ) → 0 < v → v ≤ 2 → a ≤ 2 → ((v ≤ a → v ≤ b) × (1 ≤ a → 1 ≤ b)) ↔ (v ≤ imp a b)
 imp-level v a b z y w = elim (by-comparison a b) [
@@ -117,8 +113,7 @@ module _ (L v : ℕ) (z : 0 < v) (y : v ≤ 2) where
       | inl r ↦ let (l, m, a) = t k j .0 r in (l, m, omega arith)
       | inr r ↦ let (l, m, a) = u k j .0 r in (l, m, omega arith)
     ],
-    λ (l, m, a). elim (max-level v (p k j) (q k j) a)
-        [ inl b ↦ inl (t k j .1 (l, m, b)) | inr b ↦ inr (u k j .1 (l, m, b)) ],
+    λ (l, m, a). elim (le-or-lt v (p k j)) [ inl b ↦ inl (t k j .1 (l, m, b)) | inr b ↦ inr (u k j .1 (l, m, omega arith)) ],
   )
 
   -- Sequence.

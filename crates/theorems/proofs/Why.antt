@@ -30,8 +30,7 @@ use Rattle.meaning.proofs.Modality.{modal-star}
 use Rattle.meaning.proofs.Examples.{open-all}
 use Rattle.theorems.specs.Filling.{Filling, Meets}
 use Rattle.theorems.specs.Why.{SecondLine, standingWith, Standing, BoxTest}
-use Rattle.theorems.proofs.Keeping.{AllKept, all-hold, append-kept}
-use Rattle.theorems.proofs.Saying.{same-says, join-says, test-says}
+use Rattle.theorems.proofs.Saying.{AllKept, all-hold, append-kept, same-says, join-says, test-says}
 
 -- ---- the second line for a star
 -- A path that leads nowhere has an edge for its row.
