@@ -57,20 +57,10 @@ module _ (ℓ : Language) (e : List ℕ) (A : ℕ) where
     pub sound : (r : ℕ) → n ≤ r → r < m → Sound ℓ e A r
     pub counted : (r : ℕ) → placesIn e r m + roots r + seen r n ≡ placesIn e r n + seen r m
 
-  forest-none : (n : ℕ) → Forest n n (λ r. 0)
-  forest-none n = record { sound = λ r a b. absurd (omega arith); counted = λ r. omega arith }
-
   forest-join : (n m k : ℕ) {p q : ℕ → ℕ} → Forest n m p → Forest m k q → Forest n k (λ r. p r + q r)
   forest-join n m k f g = record {
     sound = λ r a b. elim (le-or-lt m r) [ inl h ↦ g .sound r h b | inr h ↦ f .sound r a h ];
     counted = λ r. omega (arith, f .counted r, g .counted r);
-  }
-
-  forest-node : (n m : ℕ) {p : ℕ → ℕ} → Forest n m p → Sound ℓ e A m → ((r : ℕ) → uses e r m ≡ p r) → Forest n (suc m) (one m)
-  unfolding placesIn seen
-  forest-node n m f s u = record {
-    sound = λ r a b. elim (below-suc b) [ inl h ↦ rw h s | inr h ↦ f .sound r a h ];
-    counted = λ r. omega (arith, f .counted r, u r);
   }
 
   -- ---- blocks
@@ -92,12 +82,16 @@ module _ (ℓ : Language) (e : List ℕ) (A : ℕ) where
       → known ℓ K ≡ true → Fits e A m (useA K) a → Fits e A m (useB K) b
       → ((r : ℕ) → names (useA K) a r + names (useB K) b r ≡ p r)
       → nodeOf K a b (λ q. getD (trees e m) q noTree) ≡ t → Block n (suc m) (sortOf K) t
-  unfolding uses
-  block-node n m a b K l f reads k g h named node =
+  unfolding uses placesIn seen
+  block-node n m a b K {p} l f reads k g h named node =
       let sound : Sound ℓ e A m = rw (reads .kind, reads .first, reads .second) (k, reads .zero-byte, g, h) in
+      let u : (r : ℕ) → uses e r m ≡ p r = λ r. rw (reads .kind, reads .first, reads .second) (named r) in
       record {
         some = omega arith;
-        forest = forest-node n m f sound (λ r. rw (reads .kind, reads .first, reads .second) (named r));
+        forest = record {
+          sound = λ r a b. elim (below-suc b) [ inl e ↦ rw e sound | inr h ↦ f .sound r a h ];
+          counted = λ r. omega (arith, f .counted r, u r);
+        };
         sorted = rw (reads .kind);
         tree = tree-node e m ∙ rw (reads .kind, reads .first, reads .second) node;
       }
@@ -118,12 +112,13 @@ module _ (ℓ : Language) (e : List ℕ) (A : ℕ) where
   part-leaf : (K : Kind) (i : ℕ) {n : ℕ} {v : Tree} → known ℓ K ≡ true → Fits e A n (useA K) i → useB K ≡ unused
       → ((r : ℕ) → names (useA K) i r ≡ 0) → ((tree : ℕ → Tree) → nodeOf K i 0 tree ≡ v) → Part n 1 (sortOf K) v (recordBytes K i 0)
   unfolding names
-  part-leaf K i {n} core first second none node = record {
+  part-leaf K i {n} core first second empty node = record {
     whole = refl;
     block = λ at.
         let next : n + 1 ≡ suc n = omega arith in
-        rw next (block-node n n i 0 K (le-refl n) (forest-none n) (at-record K i 0 at) core first (rw second refl)
-        (λ r. rw second (omega (arith, none r))) (node _));
+        let none : Forest n n (λ r. 0) = record { sound = λ r a b. absurd (omega arith); counted = λ r. omega arith } in
+        rw next (block-node n n i 0 K (le-refl n) none (at-record K i 0 at) core first (rw second refl)
+        (λ r. rw second (omega (arith, empty r))) (node _));
   }
 
   -- a part and a record that follows it,

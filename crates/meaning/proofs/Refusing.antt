@@ -137,19 +137,14 @@ module _ (ℓ : Language) (s : List ℕ) (A : ℕ) where
       (ordered-cons refl (omega arith) (either (field _ _ .2) (field _ _ .2))
       (ordered-one refl (omega arith) (either (field _ _ .3) (field _ _ .3))) (omega arith)) (omega arith)) (omega arith)) (omega arith)
 
-  -- A record before the last.
-  parents-ordered : (n : ℕ) → Ordered (each (pred n) (λ r. ground7 s r ∷ []))
-      (λ ρ. (r : ℕ) × (suc r < n) × (notOneParent r when (places s r ≢ 1)) ρ) (position 4 0 0) (position 5 0 0)
-  unfolding ground7 given positionOf
-  parents-ordered n =
-      ordered-same (λ ρ. (λ (r, l, w). (r, omega arith, w), λ (r, l, w). (r, omega arith, w))) (omega arith)
-      (ordered-each 4 0 (λ r. ordered-one refl (omega arith) (unequal _ _)) (pred n))
-
+  -- All records, the last, and each before it.
   tree-ordered : Ordered (treeGrounds ℓ s A) (TreeRefused ℓ s A) (position 2 0 0) (position 5 0 0)
-  unfolding treeGrounds ground6-last given positionOf
+  unfolding treeGrounds ground6-last ground7 given positionOf
   tree-ordered =
       ordered-append (ordered-each 2 4 record-ordered (count s))
-      (ordered-cons refl (omega arith) (path-differs _) (parents-ordered (count s)) (omega arith)) (omega arith)
+      (ordered-cons refl (omega arith) (path-differs _)
+      (ordered-same (λ ρ. (λ (r, l, w). (r, omega arith, w), λ (r, l, w). (r, omega arith, w))) (omega arith)
+      (ordered-each 4 0 (λ r. ordered-one refl (omega arith) (unequal _ _)) _)) (omega arith)) (omega arith)
 
   -- With the ground 8 of the service.
   formula-ordered : (g : Ground) (sizes : Type 0) → g .number ≡ 8 → ((g .applies ≡ true) ↔ sizes)
