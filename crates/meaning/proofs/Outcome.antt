@@ -39,36 +39,27 @@ use Rattle.meaning.proofs.Fails.{eqb-holds, ltb-holds}
 use Rattle.meaning.proofs.Holding.{rule-holds, literal-false, literal-true, literal-column, literal-previous, literal-negated}
 use Rattle.meaning.proofs.Judging.{yes-means, no-means}
 
--- ---- a buffer with something written at its start
-module _ (new old : List ℕ) where
-  written-length : length new ≤ length old → length (written new old) ≡ length old
-  unfolding written
-  written-length l = simp (length-append, length-drop) (omega arith)
-
-  written-rest : (i : ℕ) → length new ≤ i → getD (written new old) i 0 ≡ getD old i 0
-  unfolding written
-  written-rest i l =
-      let e : length new + (i - length new) ≡ i = omega arith in
-      rw e at (getD-append-add new (drop (length new) old) (i - length new) 0 ∙ getD-drop (length new) old (i - length new) 0)
-
 -- ---- a service that lends a buffer
 -- It needs room for what it writes where it refuses nothing, and refuses if there is less.
 answered : {Refused : Reason → Type 0} {refusal size : ℕ} {old : List ℕ} (value : ℕ) (new : List ℕ) → First Refused refusal
     → (refusal ≡ 0 → length new ≡ size) → (length old < length new → Refused noRoom)
     → Answered Refused refusal (accepted refusal value 0) size old (accepted refusal (written new old) old)
+unfolding written
 answered {Refused} {refusal} {size} {old} value new first sized room = record {
   first = first;
   no-number = λ n. rw (ne-eqb refusal 0 n);
   untouched = λ n. rw (ne-eqb refusal 0 n);
   as-long = elim (ℕ-discrete refusal 0) [
-    | yes e ↦ rw (eq-eqb refusal 0 e) (written-length new old (fits e))
+    | yes e ↦
+        let fits : ¬ (length old < length new) = λ l. first .none e noRoom (room l) in
+        rw (eq-eqb refusal 0 e) (simp (length-append, length-drop) (omega arith))
     | no n ↦ rw (ne-eqb refusal 0 n)
   ];
-  rest = λ e i l. rw (eq-eqb refusal 0 e) (written-rest new old i (rw (sized e) l));
+  rest = λ e i l.
+      let place : length new + (i - length new) ≡ i = omega (arith, sized e) in
+      rw (eq-eqb refusal 0 e)
+      (rw place at (getD-append-add new (drop (length new) old) (i - length new) 0 ∙ getD-drop (length new) old (i - length new) 0));
 }
-  where
-    fits : refusal ≡ 0 → length new ≤ length old
-    fits e = elim (le-or-lt (length new) (length old)) [ inl l ↦ l | inr l ↦ absurd (first .none e noRoom (room l)) ]
 
 -- ---- what is written
 -- A tree's records in postorder.
@@ -182,21 +173,6 @@ module _ (s : List ℕ) (A L : ℕ) (cells out : List ℕ) (taken : valueAnswer 
       ∙ getD-tabulate L _ k m)
 
   -- There is an instant and a record, and the last is a formula.
-  some-instant : 0 < L
-  some-instant = let n : ¬ (L ≡ 0) = λ e. no-reason wrongSize (inl (inr (inl (refl, inr (inl e))))) in omega arith
-
-  some-record : 0 < count s
-  some-record =
-      let n : ¬ (length s ≡ 0) = λ e. no-reason wrongLength (inl (inl (refl, inl e))) in
-      let d : ¬ (0 < length s % recordSize) = λ e. no-reason wrongLength (inl (inl (refl, inr (inl (omega arith))))) in
-      omega arith
-
-  last-formula : sortOf (kindAt s (pred (count s))) ≡ formula
-  last-formula = elim (either-sort (sortOf (kindAt s (pred (count s))))) [
-    | inl e ↦ e
-    | inr e ↦ absurd (no-reason lastIsPath (inl (inr (inr (inr (inl (refl, e)))))))
-  ]
-
   pub rows-are : RowsAre s A L cells (valueAfter s A L cells out) (valueAnswer s A L cells (length out) .value)
   unfolding rowOf rowBy valueAnswer
   rows-are = record {
@@ -204,10 +180,13 @@ module _ (s : List ℕ) (A L : ℕ) (cells out : List ℕ) (taken : valueAnswer 
         row-left r k l m ∙ rw e (same-value (reading L (cellOf A cells) (λ q i _. cell-low (A * q + i))) R (formAt s r) k m);
     paths = λ r k l m e. row-left r k l m ∙ rw e;
     whole =
-        let some = some-record in
+        let instant : ¬ (L ≡ 0) = λ e. no-reason wrongSize (inl (inr (inl (refl, inr (inl e))))) in
+        let some : ¬ (length s ≡ 0) = λ e. no-reason wrongLength (inl (inl (refl, inl e))) in
+        let whole : ¬ (0 < length s % recordSize) = λ e. no-reason wrongLength (inl (inl (refl, inr (inl (omega arith))))) in
+        let last : sortOf (kindAt s (pred (count s))) ≡ formula = elim (either-sort (sortOf (kindAt s (pred (count s)))))
+        [ inl e ↦ e | inr e ↦ absurd (no-reason lastIsPath (inl (inr (inr (inr (inl (refl, e))))))) ] in
         let start : pred (count s) * L + 0 ≡ pred (count s) * L = omega arith in
-        rw (eq-eqb _ 0 taken, sym start)
-        (sym (row-left (pred (count s)) 0 (omega arith) some-instant ∙ rw last-formula));
+        rw (eq-eqb _ 0 taken, sym start) (sym (row-left (pred (count s)) 0 (omega arith) (omega arith) ∙ rw last));
   }
 
 -- ---- rules
