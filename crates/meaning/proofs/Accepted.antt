@@ -7,7 +7,6 @@ use mathlib.Core.Logic.{_↔_}
 use mathlib.Core.List.{List, [], _∷_}
 use native.Mathlib.Omega.{arith}
 use lib.ListN.{length}
-use Rattle.meaning.specs.Run.{each}
 use Rattle.meaning.specs.Record.{Language, core, recordSize, mostRecords, count, kindAt, zeroByte, fieldA, fieldB, known}
 use Rattle.meaning.specs.Record.{Use, unused, atomNumber, child, useA, useB}
 use Rattle.meaning.specs.Refusal.{firstOf, recordGrounds, treeGrounds, starGrounds, formulaGrounds, checkGrounds, starredGrounds, stray, late, beyond, misfit}
@@ -15,8 +14,8 @@ use Rattle.meaning.specs.Refusal.{ground1, ground2, ground3, ground4, gr
 use Rattle.meaning.specs.WellFormed.{Fits, WellFormed}
 use Rattle.meaning.specs.Service.{checkAnswer}
 use Rattle.meaning.proofs.Fails.{tests}
+use Rattle.meaning.proofs.Refusing.{tree-ordered, atoms-ordered, starred-ordered}
 use Rattle.meaning.proofs.First.{Clear, Numbered, clear-none, none-clear, clear-append, clear-each, each-clears}
-use Rattle.meaning.proofs.First.{numbered-append, numbered-each}
 
 -- ---- where a ground does not apply
 -- 1: the bytes are whole records, at least one and not too many.
@@ -77,18 +76,12 @@ module _ (ℓ : Language) (s : List ℕ) (A : ℕ) where
   -- ---- where the number is 0
   -- Each ground of a tree has a number above 0.
   pub tree-numbered : Numbered (treeGrounds ℓ s A)
-  unfolding treeGrounds recordGrounds ground2 ground3 ground4 ground5 ground6 ground6-last ground7
-  tree-numbered =
-      numbered-append (each _ (recordGrounds ℓ s A)) (ground6-last s ∷ each _ (λ r. ground7 s r ∷ []))
-      (numbered-each _ _ (λ r. omega arith)) (omega arith, numbered-each _ _ (λ r. omega arith))
+  tree-numbered = tree-ordered ℓ s A .numbered
 
   -- So the first number is 0 where the records are a tree, and only there.
   pub accepted : (firstOf (formulaGrounds ℓ s A) ≡ 0) ↔ WellFormed ℓ s A
-  unfolding ground1 ground8
-  accepted = (
-    λ e. clear-well-formed .0 (none-clear _ (omega arith, (omega arith, tree-numbered)) e),
-    λ w. clear-none _ (clear-well-formed .1 w),
-  )
+  accepted =
+      (λ e. clear-well-formed .0 (none-clear _ (atoms-ordered s A ℓ .numbered) e), λ w. clear-none _ (clear-well-formed .1 w))
 
 -- Check takes the core kinds alone.
 pub check-accepts : (s : List ℕ) (A : ℕ) → (checkAnswer s A ≡ 0) ↔ WellFormed core s A
@@ -98,10 +91,7 @@ check-accepts = accepted core
 -- ---- with the stars' grounds
 -- Each has a number above 0.
 pub starred-numbered : (s : List ℕ) (A : ℕ) → Numbered (starredGrounds s A)
-unfolding checkGrounds ground1 ground8 starGrounds ground11 ground12
-starred-numbered s A =
-    let stars = numbered-each (λ r. ground12 s r ∷ ground11 s r ∷ []) (count s) (λ r. omega arith) in
-    (omega arith, (omega arith, numbered-append (treeGrounds core s A) (starGrounds s) (tree-numbered core s A) stars))
+starred-numbered s A = starred-ordered s A .numbered
 
 module _ (s : List ℕ) (A : ℕ) (e : firstOf (starredGrounds s A) ≡ 0) where
   -- So where the first number is 0, none applies, of check and of the stars:

@@ -36,7 +36,6 @@ kind-again =
 two-read : (e : List ℕ) (i v : ℕ) → getD e i 0 ≡ v % 256 → getD e (i + 1) 0 ≡ v / 256 → twoBytes e i ≡ v
 two-read e i v low high = omega arith
 
--- All bytes.
 pub at-start : (e : List ℕ) → At e 0 e
 at-start e = record { byte = λ i l. let start : recordSize * 0 + i ≡ i = omega arith in rw start }
 
@@ -52,7 +51,6 @@ module _ {e : List ℕ} {n : ℕ} where
         rw place (at .byte (length x + i) (omega (arith, length-append x y)) ∙ getD-append-add x y i 0);
   }
 
-  -- One record.
   pub at-record : (K : Kind) (a b : ℕ) → At e n (recordBytes K a b) → Reads e n K a b
   at-record K a b at =
       let start : recordSize * n + 0 ≡ recordSize * n = omega arith in

@@ -33,13 +33,11 @@ module _ (m : Mode) (L : ℕ) where
     λ h j l. (h .0 j l, h .1 j l),
   ))
 
-  -- Choice.
   pub modal-choice : (p q : Square) (c : Row) (k : ℕ) →
       modalRow m L (choiceSquare p q) c k ≡ joined m (modalRow m L p c k) (modalRow m L q c k)
   unfolding choiceSquare
   modal-choice p q c k = modal-max _ p q c k (λ j. refl)
 
-  -- Sequence.
   pub modal-sequence : (p q : Square) (c : Row) (k : ℕ) →
       modalRow m L (sequenceSquare L p q) c k ≡ modalRow m L p (modalRow m L q c) k
   unfolding sequenceSquare
@@ -61,7 +59,6 @@ module _ (m : Mode) (L : ℕ) where
       modalRow m L p c k ≡ c i
   modal-two p c k i l b one e = modal-one p c k i l b one ∙ rw e (gate-two m (c i) b)
 
-  -- Test.
   pub modal-test : (f c : Row) (k : ℕ) → k < L → c k ≤ 2 → modalRow m L (testSquare f) c k ≡ gate m (f k) (c k)
   unfolding testSquare
   modal-test f c k l b =
@@ -85,7 +82,6 @@ module _ (m : Mode) (L : ℕ) where
   unfolding passes
   modal-still p c k l b = modal-two (passes L p 0) c k k l b (λ j. only-there j k 2) (value-there k k 2 refl)
 
-  -- Star.
   pub modal-star : (p : Square) (c : Row) (k : ℕ) → k < L → c k ≤ 2 →
       modalRow m L (starSquare L p) c k ≡ joined m (c k) (modalRow m L p (modalRow m L (starSquare L p) c) k)
   modal-star p c k l b =

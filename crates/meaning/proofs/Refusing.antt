@@ -1,6 +1,6 @@
 -- Each service's grounds stand for its reasons. A ground's test holds exactly where the reason's plain fact is so; and the grounds are in the
 -- reasons' order: those of one record in turn, then of each record, then stage after stage.
-use Prim.Native.Nat.{ℕ, suc, pred, _<_, _≤_}
+use Prim.Native.Nat.{ℕ, suc, _<_, _≤_}
 use mathlib.Core.Path.{_≡_, refl, sym, _∙_}
 use mathlib.Core.Bool.{Bool, true, false, not, _&&_, _||_, true≢false}
 use mathlib.Core.Logic.{_⊎_, inl, inr, _↔_, _≢_, Iff·rfl, Iff·trans, ⊎-map}
@@ -11,16 +11,15 @@ use lib.ListN.{length}
 use lib.Dec.{leb, eqb}
 use borrow.Author.Tests.{leb-true, le-leb}
 use Rattle.meaning.specs.Record.{Language, count, kindAt, Kind, star, Sort, formula, path}
-use Rattle.meaning.specs.Record.{sortOf, Use, unused, atomNumber, child, places, core, full}
+use Rattle.meaning.specs.Record.{sortOf, Use, unused, atomNumber, child, core, full}
 use Rattle.meaning.specs.Rule.{ruleAt, ruleWord}
 use Rattle.meaning.specs.Refusal.{stray, late, beyond, differ, misfit, isStar, badLiteral, badRule, ground1, ground2, ground3}
 use Rattle.meaning.specs.Refusal.{ground4, ground5, ground6, ground6-last, ground7, ground8-cells, ground11, ground12, ground13}
 use Rattle.meaning.specs.Refusal.{ground13-length, Ground, mostAtoms, ground8, grounds9, ground10, ground14, recordGrounds, treeGrounds}
-use Rattle.meaning.specs.Refusal.{starGrounds, formulaGrounds, checkGrounds, expandGrounds, valueGrounds, translateGrounds, judgeGrounds}
-use Rattle.meaning.specs.Reason.{WrongSize, WrongWord, WrongRule, given, position, positionOf, notOneParent, noRoom, RecordRefused}
+use Rattle.meaning.specs.Refusal.{starGrounds, starredGrounds, formulaGrounds, checkGrounds, expandGrounds, valueGrounds, translateGrounds, judgeGrounds}
+use Rattle.meaning.specs.Reason.{WrongSize, WrongWord, WrongRule, given, position, positionOf, noRoom, RecordRefused}
 use Rattle.meaning.specs.Reason.{TreeRefused, FormulaRefused, StarRefused, CellRefused, CheckRefused, ExpandRefused, ValueRefused}
 use Rattle.meaning.specs.Reason.{TranslateRefused, JudgeRefused, _when_}
-use Rattle.meaning.specs.Run.{each}
 use Rattle.meaning.specs.Judge.{ruleCount}
 use Rattle.meaning.proofs.Bounds.{below-suc}
 use Rattle.meaning.proofs.Cases.{by-kind}
@@ -29,7 +28,6 @@ use Rattle.meaning.proofs.RuleCount.{translation-counted}
 use Rattle.meaning.proofs.Ordered.{Ordered, ordered-one, ordered-cons, ordered-same, ordered-append, ordered-each}
 
 -- ---- tests
--- One of two.
 or-holds : (a b : Bool) → ((a || b) ≡ true) ↔ ((a ≡ true) ⊎ (b ≡ true))
 or-holds true b = (λ e. inl refl, λ p. refl)
 or-holds false b = (inr, λ p. elim p [ inl e ↦ absurd (true≢false (sym e)) | inr e ↦ e ])
@@ -138,7 +136,7 @@ module _ (ℓ : Language) (s : List ℕ) (A : ℕ) where
       (ordered-one refl (omega arith) (either (field _ _ .3) (field _ _ .3))) (omega arith)) (omega arith)) (omega arith)) (omega arith)
 
   -- All records, the last, and each before it.
-  tree-ordered : Ordered (treeGrounds ℓ s A) (TreeRefused ℓ s A) (position 2 0 0) (position 5 0 0)
+  pub tree-ordered : Ordered (treeGrounds ℓ s A) (TreeRefused ℓ s A) (position 2 0 0) (position 5 0 0)
   unfolding treeGrounds ground6-last ground7 given positionOf
   tree-ordered =
       ordered-append (ordered-each 2 4 record-ordered (count s))
@@ -166,7 +164,7 @@ room-ordered needed room = ordered-one refl (omega arith) (ltb-holds _ _)
 -- ---- the services
 module _ (s : List ℕ) (A : ℕ) where
   -- Without a trace.
-  atoms-ordered : (ℓ : Language) → Ordered (formulaGrounds ℓ s A) (FormulaRefused ℓ s A (mostAtoms < A)) (position 0 0 0) (position 5 0 0)
+  pub atoms-ordered : (ℓ : Language) → Ordered (formulaGrounds ℓ s A) (FormulaRefused ℓ s A (mostAtoms < A)) (position 0 0 0) (position 5 0 0)
   unfolding ground8
   atoms-ordered ℓ = formula-ordered ℓ s A _ _ refl (ltb-holds _ _)
 
@@ -187,22 +185,20 @@ module _ (s : List ℕ) (A : ℕ) where
       ordered-append (formula-ordered core s A _ _ refl (sizes-apply _ A L cells))
       (ordered-append (cells-ordered cells) (room-ordered _ room) (omega arith)) (omega arith)
 
-  stars-ordered : Ordered (starGrounds s) (λ ρ. (r : ℕ) × (r < count s) × StarRefused s r ρ) (position 5 0 0) (position 5 (count s) 0)
+  pub starred-ordered : Ordered (starredGrounds s A) (λ ρ. CheckRefused s A ρ ⊎ ((r : ℕ) × (r < count s) × StarRefused s r ρ))
+      (position 0 0 0) (position 5 (count s) 0)
   unfolding starGrounds ground11 ground12 given positionOf
-  stars-ordered =
-      ordered-each 5 1
-      (λ r. ordered-cons refl (omega arith)
+  starred-ordered =
+      ordered-append check-ordered (ordered-each 5 1 (λ r. ordered-cons refl (omega arith)
       (Iff·trans (both (star-is _) (both Iff·rfl Iff·rfl)) (λ (k, (a, b)). (k, a, b), λ (k, a, b). (k, (a, b))))
-      (ordered-one refl (omega arith) (both (star-is _) Iff·rfl)) (omega arith))
-      (count s)
+      (ordered-one refl (omega arith) (both (star-is _) Iff·rfl)) (omega arith)) (count s)) (omega arith)
 
   pub translate-ordered : (room : ℕ)
       → Ordered (translateGrounds s A room) (TranslateRefused s A room) (position 0 0 0) (position 10 0 0)
   unfolding translateGrounds
   translate-ordered room =
       rw (translation-counted s A)
-      (ordered-same (λ ρ. one-of-three) (omega arith)
-      (ordered-append (ordered-append check-ordered stars-ordered (omega arith)) (room-ordered _ room) (omega arith)))
+      (ordered-same (λ ρ. one-of-three) (omega arith) (ordered-append starred-ordered (room-ordered _ room) (omega arith)))
 
 pub judge-ordered : (ws : List ℕ) (W L : ℕ) (cells : List ℕ)
     → Ordered (judgeGrounds ws W L cells) (JudgeRefused ws W L cells) (position 1 0 0) (position 9 (length cells) 0)

@@ -74,7 +74,6 @@ module _ (W : ℕ) (few : W ≤ mostColumns) where
     unfolding badRule
     same-formed = simp literals (refl, (refl, tt))
 
-    -- Move.
     move-formed : (w : Way) (m : Mode) → Formed W (moveRules w m x u)
     unfolding moveRules edgeRule badRule
     move-formed ahead = elim [ diamond ↦ simp literals (refl, (refl, (refl, tt))) | box ↦ simp literals (refl, (refl, (refl, tt))) ]
@@ -86,7 +85,6 @@ module _ (W : ℕ) (few : W ≤ mostColumns) where
       unfolding joinRules badRule
       join-formed = elim [ diamond ↦ simp literals (refl, (refl, (refl, tt))) | box ↦ simp literals (refl, (refl, (refl, tt))) ]
 
-      -- Test.
       test-formed : (m : Mode) → Formed W (testRules m x u v)
       unfolding testRules badRule
       test-formed = elim [ diamond ↦ simp literals (refl, (refl, (refl, tt))) | box ↦ simp literals (refl, (refl, (refl, (refl, tt)))) ]
@@ -129,7 +127,6 @@ module _ {s : List ℕ} {A : ℕ} (w : WellFormed core s A) where
     kind-formed r l (shorthand σ) e sh = absurd sh
     kind-formed r l unknown e sh = absurd sh
 
-    -- All rules.
     pub translation-formed : ((r : ℕ) → r < count s → Shape s L cell (kindAt s r) r) → Formed W (translation s A)
     unfolding translation rulesAt
     translation-formed shape = simp (all-append, all-each) (
@@ -138,13 +135,11 @@ module _ {s : List ℕ} {A : ℕ} (w : WellFormed core s A) where
     )
 
 -- ---- grounds that do not apply
--- Sizes that fit.
 sizes-clear : (most W L : ℕ) (cells : List ℕ) → W ≤ most → 0 < L → L ≤ 32 → length cells ≡ W * L
     → ground8-cells most W L cells .applies ≡ false
 unfolding ground8-cells
 sizes-clear most W L cells few some short size = simp tests (((omega arith, omega arith), omega arith), size)
 
--- Cells that are values.
 cells-clear : (cells : List ℕ) → ((i : ℕ) → getD cells i 0 ≤ 2) → Clear (grounds9 cells)
 unfolding grounds9
 cells-clear cells low = each-clear _ (length cells) (λ i l. simp tests (omega (arith, low i), tt))

@@ -15,14 +15,15 @@ use Rattle.meaning.specs.Judge.{FirstFailure}
 use Rattle.meaning.specs.Run.{each, written, cellOf}
 use Rattle.meaning.specs.Translation.{translation, rulesAt, asserted}
 use Rattle.meaning.specs.Record.{count}
-use Rattle.meaning.specs.Refusal.{ground10, starredGrounds, translateGrounds}
+use Rattle.meaning.specs.Refusal.{starredGrounds, translateGrounds}
 use Rattle.meaning.specs.Service.{translateAnswer, translateAfter, judgeAnswer}
 use Rattle.meaning.specs.WellFormed.{Trace}
 use Rattle.meaning.proofs.Implication.{by-comparison}
 use Rattle.meaning.proofs.Reading.{reading}
 use Rattle.meaning.proofs.Outcome.{rows-are, rules-read, judge-verdict}
-use Rattle.meaning.proofs.First.{clear-none, clear-append, none-clear, numbered-append}
-use Rattle.meaning.proofs.Accepted.{starred-numbered, starred-formed}
+use Rattle.meaning.proofs.Refusing.{translate-ordered}
+use Rattle.meaning.proofs.First.{clear-none, clear-append, none-clear}
+use Rattle.meaning.proofs.Accepted.{starred-formed}
 use Rattle.meaning.proofs.RuleCount.{words-length, words-append, translation-counted, few-rules}
 use Rattle.meaning.proofs.Outcome.{check-first, expand-answered, value-answered, translate-answered, judge-first, judge-numbers}
 use Rattle.theorems.specs.Demand2.{Demand2}
@@ -68,11 +69,10 @@ demand-2 = record {
 -- ---- what the translator writes
 module _ (s : List ℕ) (A : ℕ) (out : List ℕ) (e : translateAnswer s A (length out) .refusal ≡ 0) where
   taken : Accepted s A
-  unfolding translateAnswer translateGrounds ground10
+  unfolding translateAnswer translateGrounds
   taken =
-      let last = ground10 (ruleSize * length (translation s A)) (length out) ∷ [] in
-      let n = numbered-append (starredGrounds s A) last (starred-numbered s A) (omega arith, tt) in
-      clear-none (starredGrounds s A) (clear-append (starredGrounds s A) last .0 (none-clear _ n e) .0)
+      let clear = none-clear _ (translate-ordered s A (length out) .numbered) e in
+      clear-none (starredGrounds s A) (clear-append (starredGrounds s A) _ .0 clear .0)
 
   counted : translateAnswer s A (length out) .count ≡ length (translation s A)
   unfolding translateAnswer

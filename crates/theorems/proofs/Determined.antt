@@ -123,13 +123,11 @@ module _ (s : List ℕ) (L : ℕ) (cell : ℕ → ℕ → ℕ) where
     made-low X b formula r k l = values-bound L cell cells _ k l
     made-low X b path r k l = modal-bound _ L _ _ k (b (contAt s r))
 
-    -- After each step.
     labels-low : (d r k : ℕ) → k < L → labels d r k ≤ 2
     unfolding labels
     labels-low zero r k l = zero-le
     labels-low (suc d) r k l = made-low (labels d) (labels-low d) (sortAt s r) r k l
 
-    -- At last.
     pub solution-low : (r k : ℕ) → k < L → solution r k ≤ 2
     unfolding solution
     solution-low = labels-low (suc (count s))

@@ -11,12 +11,13 @@ use Rattle.meaning.specs.Run.{written}
 use Rattle.meaning.specs.Record.{Language, core, full, recordSize, mostRecords, count, Sort}
 use Rattle.meaning.specs.Formula.{Form}
 use Rattle.meaning.specs.Tree.{Tree, asForm, formAt, formSize, postorder}
-use Rattle.meaning.specs.Refusal.{mostAtoms, ground1, ground8, ground10, ground14, treeGrounds, expandGrounds, wholeForm}
+use Rattle.meaning.specs.Refusal.{mostAtoms, ground10, ground14, expandGrounds, wholeForm}
 use Rattle.meaning.specs.WellFormed.{WellFormed}
 use Rattle.meaning.specs.Service.{Counted, expandAnswer, expandAfter}
 use Rattle.meaning.proofs.Fails.{tests}
-use Rattle.meaning.proofs.First.{Clear, Numbered, none-clear, clear-none, clear-append, numbered-append}
-use Rattle.meaning.proofs.Accepted.{clear-well-formed, tree-numbered, check-accepts}
+use Rattle.meaning.proofs.First.{Clear, none-clear, clear-none, clear-append}
+use Rattle.meaning.proofs.Accepted.{clear-well-formed, check-accepts}
+use Rattle.meaning.proofs.Refusing.{expand-ordered}
 use Rattle.meaning.proofs.Nodes.{tree-of}
 use Rattle.meaning.proofs.Examples.{starred}
 use Rattle.theorems.specs.Expander.{expanded, Expanding, Expander}
@@ -41,15 +42,10 @@ module _ (s : List ℕ) (A : ℕ) where
     λ (w, a, b). (clear-well-formed full s A .1 w, (omega arith, (omega arith, tt))),
   )
 
-  grounds-numbered : (room : ℕ) → Numbered (expandGrounds s A room)
-  unfolding expandGrounds ground1 ground8 ground14 ground10
-  grounds-numbered room =
-      (omega arith, (omega arith, numbered-append (treeGrounds full s A) _ (tree-numbered full s A) (omega arith)))
-
   module _ (out : List ℕ) where
     accepted-fits : expandAnswer s A (length out) .refusal ≡ 0 → Fitting (length out)
     unfolding expandAnswer
-    accepted-fits e = fitting-clear (length out) .0 (none-clear _ (grounds-numbered (length out)) e)
+    accepted-fits e = fitting-clear (length out) .0 (none-clear _ (expand-ordered s A (length out) .numbered) e)
 
     -- Then it gives the count of the expansion's records, and writes them.
     fits-answer : Fitting (length out) → expandAnswer s A (length out) ≡ given (wholeForm s)

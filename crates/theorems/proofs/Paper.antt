@@ -49,7 +49,6 @@ all-level L v p f t h k l = (
 )
 
 module _ (L v : ℕ) (z : 0 < v) (y : v ≤ 2) where
-  -- Diamond.
   pub diamond-level : {R : Relation} {S : ℕ → Type 0} (p : Square) (f : Row) → Level L v R p → LevelRow L v S f
       → LevelRow L v (λ k. (j : ℕ) × R k j × S j) (diamondRow L p f)
   unfolding diamondRow
@@ -78,7 +77,6 @@ module _ (L v : ℕ) (z : 0 < v) (y : v ≤ 2) where
       Iff·trans (Iff·and (all-level L v p f t h k l) (all-level L 1 p f t₁ h₁ k l)) (each-level p f k (λ j. low k j l))
 
   -- ---- relations
-  -- Step.
   pub step-level : Level L v (Next L) (moveSquare ahead)
   unfolding Beside
   step-level k j = (
@@ -86,7 +84,6 @@ module _ (L v : ℕ) (z : 0 < v) (y : v ≤ 2) where
     λ (l, m, a). (move-beside ahead k j (omega arith), m),
   )
 
-  -- Back step.
   pub back-level : Level L v (λ k j. Next L j k) (moveSquare back)
   unfolding Beside
   back-level k j = (
@@ -94,7 +91,6 @@ module _ (L v : ℕ) (z : 0 < v) (y : v ≤ 2) where
     λ (l, m, a). (sym (move-beside back k j (omega arith)), l),
   )
 
-  -- Test.
   pub test-level : {S : ℕ → Type 0} (f : Row) → LevelRow L v S f → Level L v (λ k j. (k < L) × (j ≡ k) × S k) (testSquare f)
   unfolding testSquare
   test-level f h k j = (
@@ -104,7 +100,6 @@ module _ (L v : ℕ) (z : 0 < v) (y : v ≤ 2) where
         (l, e, h k l .1 (omega (arith, value-there j k (f k) e))),
   )
 
-  -- Choice.
   pub choice-level : {R S : Relation} (p q : Square) → Level L v R p → Level L v S q
       → Level L v (λ k j. R k j ⊎ S k j) (choiceSquare p q)
   unfolding choiceSquare
@@ -116,7 +111,6 @@ module _ (L v : ℕ) (z : 0 < v) (y : v ≤ 2) where
     λ (l, m, a). elim (le-or-lt v (p k j)) [ inl b ↦ inl (t k j .1 (l, m, b)) | inr b ↦ inr (u k j .1 (l, m, omega arith)) ],
   )
 
-  -- Sequence.
   pub sequence-level : {R S : Relation} (p q : Square) → Level L v R p → Level L v S q
       → Level L v (Then R S) (sequenceSquare L p q)
   sequence-level p q t u k j = (
@@ -138,7 +132,6 @@ module _ (L v : ℕ) (z : 0 < v) (y : v ≤ 2) where
   )
   times-level p t (suc n) = sequence-level p (passes L p n) t (times-level p t n)
 
-  -- Star.
   pub star-level : {R : Relation} (p : Square) → Level L v R p
       → Level L v (λ k j. (n : ℕ) × Times L R n k j) (starSquare L p)
   star-level p t k j = (

@@ -173,7 +173,6 @@ module _ (L : ℕ) (cell : ℕ → ℕ → ℕ) (low : (k i : ℕ) → cell k i 
     row-edge : (w : Way) (k : ℕ) → ((j : ℕ) → j < L → ¬ (Beside w k j)) → row w k ≡ edge m
     row-edge w k none = modal-edge m L w (literal cell c) k none
 
-    -- Move.
     pub move-says : (w : Way) → Keeping L cell (moveRules w m x c) ↔ ((k : ℕ) → k < L → literal cell x k ≡ row w k)
     unfolding moveRules placed Beside
     move-says ahead = simp (beside-placed, ltb-holds, eqb-holds, literal-previous) (

@@ -77,7 +77,6 @@ Said f =
     (a 2 ≡ a 0) × (a 3 ≡ min (a 2) (a 4)) × (a 4 ≡ max (a 5) (a 3)) × (a 5 ≡ a 1) × (a 6 ≡ a 4)
 
 module _ (f : List ℕ) (low : (i : ℕ) → getD f i 0 ≤ 2) where
-  -- The cells.
   abbrev cell : ℕ → ℕ → ℕ
   cell = cellOf 7 f
 
