@@ -1,25 +1,140 @@
--- Stars whose body leads strictly one way. The row of such a star is the only one that solves its equation: at each
--- instant the continuation, joined with one pass and then the row. Over a move, the stretch from the instant at hand
--- to the end of the trace solves it, being that instant and the rest of the stretch. Until at k is G there, or F there and until at the
--- next instant; since at k is G there, or F and since at the previous instant. What a later instant adds is after the same test of F
--- in all of them, so the test stands before their greatest.
-use Prim.Native.Nat.{ℕ, _+_, _≤_, _<_, zero-le, min}
+-- Rows of moves, and of stars whose body leads strictly one way. A move looks at the instant beside, and gives the edge where there is none.
+-- The row of a star is the only one that solves its equation: at each instant the continuation, joined with one pass and then the row. Over a
+-- move, the stretch from the instant at hand to the end of the trace solves it: a stretch is its first instant and the rest, or its last
+-- instant and those before. Until at k is G there, or F there and until at the next instant; since at k is G there, or F and since at the
+-- previous instant. What a later instant adds is after the same test of F in all of them, so the test stands before their greatest.
+--   overIn m a b f          the greatest of f over the instants a .. b - 1 under a diamond, the least under a box
+--   shifted w L f k else    f at the instant beside k in the way w; `else` where there is none
+use Prim.Native.Nat.{ℕ, zero, suc, _+_, _-_, _≤_, _<_, min, pred, zero-le}
 use mathlib.Core.Path.{_≡_, refl, sym, ap, _∙_}
-use mathlib.Core.Bool.{false}
-use native.Mathlib.Nat.{le-refl}
+use mathlib.Core.Bool.{cond, false}
+use mathlib.Core.Logic.{inl, inr}
+use native.Mathlib.Nat.{add-zero, le-refl}
 use native.Mathlib.Omega.{arith}
-use Rattle.meaning.specs.Record.{Mode, Way, ahead, back, diamond, box}
+use lib.Dec.{eqb, eqb·suc-zero}
+use borrow.Author.Tests.{eq-eqb, ne-eqb, lt-ltb, le-ltb}
+use Rattle.meaning.specs.Three.{greatest, least}
+use Rattle.meaning.specs.Record.{Mode, diamond, box, Way, ahead, back}
+use Rattle.meaning.specs.Value.{Row, moveSquare, modalRow, valueOf, squareOf, testSquare, sequenceSquare}
+use Rattle.meaning.specs.Worth.{greatestIn, leastIn, after, before}
 use Rattle.meaning.specs.Formula.{Form, Path, modal, move, star, mayStand, sameWay, goes}
-use Rattle.meaning.specs.Value.{Row, valueOf, squareOf, moveSquare, testSquare, sequenceSquare, modalRow}
-use Rattle.meaning.specs.Worth.{greatestIn, leastIn}
-use Rattle.meaning.proofs.Onward.{other, Strictly, onward, values-bound}
+use Rattle.meaning.proofs.Bounds.{greatest-same, greatest-within, least-bound, le-or-lt}
 use Rattle.meaning.proofs.Within.{joined, edge, gate}
+use Rattle.meaning.proofs.Reach.{Beside}
+use Rattle.meaning.proofs.Modality.{modal-move, modal-edge, modal-bound, modal-sequence, modal-test}
+use Rattle.meaning.proofs.Onward.{other, Strictly, onward, values-bound}
 use Rattle.meaning.proofs.Solution.{Solves, star-solution}
-use Rattle.meaning.proofs.Stretches.{overIn, stretch-none, stretch-first, stretch-last, stretch-bound, stretch-gated}
-use Rattle.meaning.proofs.Beside.{move-row, after-all, before-all}
-use Rattle.meaning.proofs.Modality.{modal-bound, modal-sequence, modal-test}
+
+-- ---- stretches of a trace
+-- The greatest under a diamond, the least under a box: of n members, and over a stretch.
+abbrev over : Mode → ℕ → Row → ℕ
+over diamond = greatest
+over box = least
+
+abbrev pub overIn : Mode → ℕ → ℕ → Row → ℕ
+overIn diamond = greatestIn
+overIn box = leastIn
+
+over-in : (m : Mode) (a b n : ℕ) (f : Row) → b - a ≡ n → overIn m a b f ≡ over m n (λ i. f (a + i))
+over-in m a b n f e = elim m [ diamond ↦ rw e | box ↦ rw e ]
+
+-- ---- the last member, and the first
+over-last : (m : Mode) (n : ℕ) (f : Row) → over m (suc n) f ≡ joined m (f n) (over m n f)
+unfolding greatest least joined
+over-last m n f = elim m [ diamond ↦ omega arith | box ↦ omega arith ]
+
+over-none : (m : Mode) (f : Row) → over m 0 f ≡ edge m
+unfolding greatest least edge
+over-none m f = elim m [ diamond ↦ refl | box ↦ refl ]
+
+-- A join in another order.
+joined-turned : (m : Mode) (u v w : ℕ) → joined m u (joined m v w) ≡ joined m v (joined m u w)
+unfolding joined
+joined-turned m u v w = elim m [ diamond ↦ omega arith | box ↦ omega arith ]
+
+over-first : (m : Mode) (n : ℕ) (f : Row) → over m (suc n) f ≡ joined m (f 0) (over m n (λ i. f (suc i)))
+over-first m zero f = over-last m zero f ∙ ap (joined m (f 0)) (over-none m f ∙ sym (over-none m _))
+over-first m (suc n) f =
+    over-last m (suc n) f ∙ ap (joined m (f (suc n))) (over-first m n f)
+    ∙ joined-turned m (f (suc n)) (f 0) _ ∙ ap (joined m (f 0)) (sym (over-last m n (λ i. f (suc i))))
+
+-- ---- stretches
+module _ (m : Mode) (a b : ℕ) (f : Row) where
+  -- One with no instant,
+  pub stretch-none : b ≤ a → overIn m a b f ≡ edge m
+  stretch-none l = over-in m a b 0 f (omega arith) ∙ over-none m _
+
+  -- one and its first instant,
+  pub stretch-first : a < b → overIn m a b f ≡ joined m (f a) (overIn m (a + 1) b f)
+  stretch-first l =
+      over-in m a b (suc (b - (a + 1))) f (omega arith) ∙ over-first m _ _
+      ∙ simp (add-zero, later) (ap (joined m (f a)) (sym (over-in m (a + 1) b _ f refl)))
+    where
+      later : (i : ℕ) → a + suc i ≡ a + 1 + i
+      later i = omega arith
+
+  -- one and its last instant.
+  pub stretch-last : a ≤ b → overIn m a (b + 1) f ≡ joined m (f b) (overIn m a b f)
+  stretch-last l =
+      let e : a + (b - a) ≡ b = omega arith in
+      over-in m a (b + 1) (suc (b - a)) f (omega arith) ∙ over-last m _ _
+      ∙ rw e (ap (joined m (f b)) (sym (over-in m a b _ f refl)))
+
+  -- The greatest of values, or the least, is a value.
+  pub stretch-bound : ((j : ℕ) → j < b → f j ≤ 2) → overIn m a b f ≤ 2
+  stretch-bound h =
+      elim m [ diamond ↦ greatest-within (b - a) _ 2 (λ i l. h (a + i) (omega arith)) | box ↦ least-bound (b - a) _ ]
+
+-- A test before each instant is one before all.
+greatest-gated : (u : ℕ) (n : ℕ) (f : Row) → greatest n (λ i. min u (f i)) ≡ min u (greatest n f)
+unfolding greatest
+greatest-gated u zero f = omega arith
+greatest-gated u (suc n) f = omega (arith, greatest-gated u n f)
+
+pub stretch-gated : (u a b : ℕ) (f h : Row) → ((j : ℕ) → a ≤ j → j < b → h j ≡ min u (f j))
+    → greatestIn a b h ≡ min u (greatestIn a b f)
+stretch-gated u a b f h e =
+    greatest-same (b - a) _ _ (λ i l. e (a + i) (omega arith) (omega arith)) ∙ greatest-gated u (b - a) _
 
 -- ---- moves
+abbrev pub shifted : Way → ℕ → Row → ℕ → ℕ → ℕ
+shifted ahead L f k else = after L f k else
+shifted back L f k else = before f k else
+
+pub move-row : (L : ℕ) (w : Way) (m : Mode) (c : Row) → ((j : ℕ) → j < L → c j ≤ 2) → (k : ℕ) → k < L
+    → modalRow m L (moveSquare w) c k ≡ shifted w L c k (edge m)
+unfolding Beside
+move-row L ahead m c low k l = elim (le-or-lt L (k + 1)) [
+  | inl h ↦ rw (le-ltb (k + 1) L h) (modal-edge m L ahead c k (λ j a b. omega arith))
+  | inr h ↦ rw (lt-ltb (k + 1) L h) (modal-move m L ahead c k (k + 1) h (low _ h) refl)
+]
+move-row L back m c low k l = elim (le-or-lt k 0) [
+  | inl h ↦ rw (le-ltb 0 k h) (modal-edge m L back c k (λ j a b. omega arith))
+  | inr h ↦ rw (lt-ltb 0 k h) (modal-move m L back c k (pred k) (omega arith) (low _ (omega arith)) (omega arith))
+]
+
+-- ---- where the two cases are one
+-- A row that has the edge's value past the last instant needs no test,
+pub after-all : (L : ℕ) (x : Row) (k e : ℕ) → (L ≤ k + 1 → x (k + 1) ≡ e) → after L x k e ≡ x (k + 1)
+after-all L x k e h = elim (le-or-lt L (k + 1)) [ inl d ↦ rw (le-ltb (k + 1) L d) (sym (h d)) | inr d ↦ rw (lt-ltb (k + 1) L d) ]
+
+-- nor one that is another, an instant later, with that value at the first.
+pub before-all : (x y : Row) (k e : ℕ) → ((i : ℕ) → i + 1 ≡ k → x i ≡ y k) → y 0 ≡ e → before x k e ≡ y k
+before-all x y zero e d h = sym h
+before-all x y (suc k) e d h = rw (lt-ltb 0 (suc k) (omega arith)) (d k (omega arith))
+
+-- ---- the instants that have none beside
+pub last-only : (k L : ℕ) → k < L → after L (λ j. 0) k 2 ≡ cond (eqb (k + 1) L) 2 0
+last-only k L l = elim (le-or-lt L (k + 1)) [
+  | inl h ↦ rw (le-ltb (k + 1) L h, eq-eqb (k + 1) L (omega arith))
+  | inr h ↦ rw (lt-ltb (k + 1) L h, ne-eqb (k + 1) L (omega arith))
+]
+
+pub first-only : (k : ℕ) → before (λ j. 0) k 2 ≡ cond (eqb k 0) 2 0
+first-only zero = refl
+first-only (suc k) = rw (lt-ltb 0 (suc k) (omega arith), eqb·suc-zero)
+
+-- ---- stars over moves
 -- A move's own way is not the other.
 turned : (w : Way) → sameWay (other w) w ≡ false
 unfolding sameWay other

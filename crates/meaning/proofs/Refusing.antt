@@ -10,8 +10,7 @@ use native.Mathlib.Omega.{arith}
 use lib.ListN.{length}
 use lib.Dec.{leb, eqb}
 use borrow.Author.Tests.{leb-true, le-leb}
-use Rattle.meaning.specs.Record.{Language, count, kindAt, Kind, star, Sort, formula, path}
-use Rattle.meaning.specs.Record.{sortOf, Use, unused, atomNumber, child, core, full}
+use Rattle.meaning.specs.Record.{Language, count, kindAt, Kind, star, Sort, formula, path, sortOf, Use, unused, atomNumber, child, core, full}
 use Rattle.meaning.specs.Rule.{ruleAt, ruleWord}
 use Rattle.meaning.specs.Refusal.{stray, late, beyond, differ, misfit, isStar, badLiteral, badRule, ground1, ground2, ground3}
 use Rattle.meaning.specs.Refusal.{ground4, ground5, ground6, ground6-last, ground7, ground8-cells, ground11, ground12, ground13}

@@ -14,8 +14,7 @@ use Rattle.meaning.proofs.Onward.{other, values-bound}
 use Rattle.meaning.proofs.Within.{joined, gate, edge}
 use Rattle.meaning.proofs.Modality.{modal-choice, modal-test}
 use Rattle.meaning.specs.Worth.{Means, Shorthands}
-use Rattle.meaning.proofs.Beside.{move-row, last-only, first-only}
-use Rattle.meaning.proofs.Along.{stretch, star-row, along-row, until-solves, since-solves}
+use Rattle.meaning.proofs.Along.{move-row, last-only, first-only, stretch, star-row, along-row, until-solves, since-solves}
 
 -- To imply false is to be negated.
 imp-false : (u : ℕ) → imp u 0 ≡ negation u
