@@ -25,35 +25,24 @@ by-test false = inr refl
 abbrev pub Numbered : List Ground → Type 0
 Numbered = All (λ g. 0 < g .number)
 
--- ---- what is asked of the first that applies
-module _ (what : Ground → ℕ) where
-  pub of-none : (gs : List Ground) → Clear gs → ofFirst what gs ≡ 0
-  unfolding ofFirst
-  of-none [] c = refl
-  of-none (g ∷ gs) c = rw (c .0) (of-none gs (c .1))
-
-  -- After a clear list, the rest decides.
-  pub of-skip : (gs hs : List Ground) → Clear gs → ofFirst what (gs ++ hs) ≡ ofFirst what hs
-  unfolding ofFirst
-  of-skip [] hs c = refl
-  of-skip (g ∷ gs) hs c = rw (c .0) (of-skip gs hs (c .1))
-
-  -- After a number that was found, nothing does.
-  pub of-stop : (gs hs : List Ground) → (firstOf gs ≡ 0 → ⊥) → ofFirst what (gs ++ hs) ≡ ofFirst what gs
-  unfolding ofFirst
-  of-stop [] hs f = absurd (f refl)
-  of-stop (g ∷ gs) hs f =
-      elim (by-test (g .applies)) [ inl h ↦ rw h | inr h ↦ rw h (of-stop gs hs (λ e. f (rw h e))) ]
-
--- ---- its number
+-- ---- the first number
 pub clear-none : (gs : List Ground) → Clear gs → firstOf gs ≡ 0
-clear-none = of-none _
+unfolding ofFirst
+clear-none [] c = refl
+clear-none (g ∷ gs) c = rw (c .0) (clear-none gs (c .1))
 
+-- After a clear list, the rest decides.
 pub clear-skip : (gs hs : List Ground) → Clear gs → firstOf (gs ++ hs) ≡ firstOf hs
-clear-skip = of-skip _
+unfolding ofFirst
+clear-skip [] hs c = refl
+clear-skip (g ∷ gs) hs c = rw (c .0) (clear-skip gs hs (c .1))
 
+-- After a number that was found, nothing does.
 pub found-stop : (gs hs : List Ground) → (firstOf gs ≡ 0 → ⊥) → firstOf (gs ++ hs) ≡ firstOf gs
-found-stop = of-stop _
+unfolding ofFirst
+found-stop [] hs f = absurd (f refl)
+found-stop (g ∷ gs) hs f =
+    elim (by-test (g .applies)) [ inl h ↦ rw h | inr h ↦ rw h (found-stop gs hs (λ e. f (rw h e))) ]
 
 -- One ground: it gives its number, or the rest decides; t is the test as the code made it.
 module _ {x : ℕ} {t : Bool} (g : Ground) (gs : List Ground) (first : x ≡ firstOf (g ∷ gs)) (test : t ≡ g .applies) where

@@ -81,10 +81,8 @@ leads-less w r s k j l a = leads-add w r s 0 k j j (omega arith) a (leads-same w
 -- A move that doesn't go the other way leads one instant far.
 beside-leads : (w v : Way) (k j : ℕ) → sameWay (other w) v ≡ false → Beside v k j → Strictly w k j
 unfolding sameWay other Beside Leads
-beside-leads ahead ahead k j g b = omega arith
-beside-leads ahead back k j g b = absurd (true≢false g)
-beside-leads back ahead k j g b = absurd (true≢false g)
-beside-leads back back k j g b = omega arith
+beside-leads ahead v k j = elim v [ ahead ↦ λ g b. omega arith | back ↦ λ g b. absurd (true≢false g) ]
+beside-leads back v k j = elim v [ ahead ↦ λ g b. absurd (true≢false g) | back ↦ λ g b. omega arith ]
 
 -- ---- how far a path leads at least, by whether it may stand still
 pace : Bool → ℕ

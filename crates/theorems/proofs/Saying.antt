@@ -169,29 +169,25 @@ module _ (L : ℕ) (cell : ℕ → ℕ → ℕ) (low : (k i : ℕ) → cell k i 
     row-there : (w : Way) (k j : ℕ) → j < L → Beside w k j → row w k ≡ literal cell c j
     row-there w k j l b = modal-move m L w (literal cell c) k j l (literal-low cell low c j) b
 
-    -- Where none is.
-    row-edge : (w : Way) (k : ℕ) → ((j : ℕ) → j < L → ¬ (Beside w k j)) → row w k ≡ edge m
-    row-edge w k none = modal-edge m L w (literal cell c) k none
-
     pub move-says : (w : Way) → Keeping L cell (moveRules w m x c) ↔ ((k : ℕ) → k < L → literal cell x k ≡ row w k)
     unfolding moveRules placed Beside
     move-says ahead = simp (beside-placed, ltb-holds, eqb-holds, literal-previous) (
       λ h k l. elim (le-or-lt (k + 2) L) [
         | inl n ↦ h (suc k) (omega arith) .0 (omega arith) ∙ sym (row-there ahead k (suc k) (omega arith) (omega arith))
-        | inr n ↦ h k l .1 (omega arith) ∙ sym (row-edge ahead k (λ j i b. omega arith))
+        | inr n ↦ h k l .1 (omega arith) ∙ sym (modal-edge m L ahead _ k (λ j i b. omega arith))
       ],
       λ h k l. (
         λ z. h (pred k) (omega arith) ∙ row-there ahead (pred k) k l (omega arith),
-        λ e. h k l ∙ row-edge ahead k (λ j i b. omega arith),
+        λ e. h k l ∙ modal-edge m L ahead _ k (λ j i b. omega arith),
       ),
     )
     move-says back = simp (beside-placed, ltb-holds, eqb-holds, literal-previous) (
       λ h k l. elim (le-or-lt 1 k) [
         | inl z ↦ h k l .0 z ∙ sym (row-there back k (pred k) (omega arith) (omega arith))
-        | inr n ↦ h k l .1 (omega arith) ∙ sym (row-edge back k (λ j i b. omega arith))
+        | inr n ↦ h k l .1 (omega arith) ∙ sym (modal-edge m L back _ k (λ j i b. omega arith))
       ],
       λ h k l. (
         λ z. h k l ∙ row-there back k (pred k) (omega arith) (omega arith),
-        λ e. h k l ∙ row-edge back k (λ j i b. omega arith),
+        λ e. h k l ∙ modal-edge m L back _ k (λ j i b. omega arith),
       ),
     )
