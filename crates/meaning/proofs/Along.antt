@@ -93,8 +93,7 @@ greatest-gated u (suc n) f = omega (arith, greatest-gated u n f)
 
 pub stretch-gated : (u a b : ℕ) (f h : Row) → ((j : ℕ) → a ≤ j → j < b → h j ≡ min u (f j))
     → greatestIn a b h ≡ min u (greatestIn a b f)
-stretch-gated u a b f h e =
-    greatest-same (b - a) _ _ (λ i l. e (a + i) (omega arith) (omega arith)) ∙ greatest-gated u (b - a) _
+stretch-gated u a b f h e = greatest-same (b - a) _ _ (λ i l. e (a + i) (omega arith) (omega arith)) ∙ greatest-gated u (b - a) _
 
 -- ---- moves
 abbrev pub shifted : Way → ℕ → Row → ℕ → ℕ → ℕ
@@ -249,5 +248,4 @@ module _ (L : ℕ) (f g : Row) (low : (k : ℕ) → k < L → g k ≤ 2) where
 
   pub since-solves : Solves diamond L (sequenceSquare L (moveSquare back) (testSquare f)) g (sinceRow f g)
   unfolding joined
-  since-solves k l =
-      stretch-last diamond 0 k (sinceAt f g k) zero-le ∙ rw (at-hand k l, modal-sequence, since-back k l)
+  since-solves k l = stretch-last diamond 0 k (sinceAt f g k) zero-le ∙ rw (at-hand k l, modal-sequence, since-back k l)

@@ -57,5 +57,4 @@ others =
 
 pub filled : Fillings
 unfolding open-all
-filled =
-    record { f = refl; f-short = refl; h = refl; h-short = refl; j = refl; next = refl; next-short = refl; weak-next = refl }
+filled = record { f = refl; f-short = refl; h = refl; h-short = refl; j = refl; next = refl; next-short = refl; weak-next = refl }

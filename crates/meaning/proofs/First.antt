@@ -41,8 +41,7 @@ clear-skip (g ∷ gs) hs c = rw (c .0) (clear-skip gs hs (c .1))
 pub found-stop : (gs hs : List Ground) → (firstOf gs ≡ 0 → ⊥) → firstOf (gs ++ hs) ≡ firstOf gs
 unfolding ofFirst
 found-stop [] hs f = absurd (f refl)
-found-stop (g ∷ gs) hs f =
-    elim (by-test (g .applies)) [ inl h ↦ rw h | inr h ↦ rw h (found-stop gs hs (λ e. f (rw h e))) ]
+found-stop (g ∷ gs) hs f = elim (by-test (g .applies)) [ inl h ↦ rw h | inr h ↦ rw h (found-stop gs hs (λ e. f (rw h e))) ]
 
 -- One ground: it gives its number, or the rest decides; t is the test as the code made it.
 module _ {x : ℕ} {t : Bool} (g : Ground) (gs : List Ground) (first : x ≡ firstOf (g ∷ gs)) (test : t ≡ g .applies) where

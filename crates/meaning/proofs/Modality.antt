@@ -61,8 +61,7 @@ module _ (m : Mode) (L : ℕ) where
 
   pub modal-test : (f c : Row) (k : ℕ) → k < L → c k ≤ 2 → modalRow m L (testSquare f) c k ≡ gate m (f k) (c k)
   unfolding testSquare
-  modal-test f c k l b =
-      modal-one (testSquare f) c k k l b (λ j. only-there j k (f k)) ∙ rw (value-there k k (f k) refl)
+  modal-test f c k l b = modal-one (testSquare f) c k k l b (λ j. only-there j k (f k)) ∙ rw (value-there k k (f k) refl)
 
   -- A move where there is an instant beside.
   pub modal-move : (w : Way) (c : Row) (k j : ℕ) → j < L → c j ≤ 2 → Beside w k j → modalRow m L (moveSquare w) c k ≡ c j

@@ -76,10 +76,7 @@ module _ (s : List ℕ) (q : ℕ) where
   uses-count : (m p : ℕ) → p < m → uses s q p ≤ placesIn s q m
   unfolding placesIn
   uses-count zero p l = absurd (omega arith)
-  uses-count (suc m) p l = elim (below-suc l) [
-    | inl e ↦ rw e (omega arith)
-    | inr k ↦ omega (arith, uses-count m p k)
-  ]
+  uses-count (suc m) p l = elim (below-suc l) [ inl e ↦ rw e (omega arith) | inr k ↦ omega (arith, uses-count m p k) ]
 
   -- Of one place, the record that has it is the parent.
   only-parent : (m p : ℕ) → p < m → 0 < uses s q p → placesIn s q m ≡ 1 → parentIn s q m ≡ p

@@ -113,10 +113,8 @@ Bounded box x = x ≤ 2
 -- Two that are within the same numbers are equal.
 same-within : (m : Mode) (x z : ℕ) → Bounded m x → Bounded m z → ((a y : ℕ) → Within m a x y ↔ Within m a z y) → x ≡ z
 unfolding Within Bounded
-same-within diamond x z _ _ h =
-    le-antisymm (omega (arith, h x z .1 (omega arith))) (omega (arith, h z x .0 (omega arith)))
-same-within box x z b d h =
-    le-antisymm (omega (arith, h x x .0 (omega arith))) (omega (arith, h z z .1 (omega arith)))
+same-within diamond x z _ _ h = le-antisymm (omega (arith, h x z .1 (omega arith))) (omega (arith, h z x .0 (omega arith)))
+same-within box x z b d h = le-antisymm (omega (arith, h x x .0 (omega arith))) (omega (arith, h z z .1 (omega arith)))
 
 -- Rows, joins, gates and edges are such numbers.
 pub fits-row : (m : Mode) (L : ℕ) (p : Square) (c : Row) (k : ℕ) → Bounded m (modalRow m L p c k)
@@ -140,8 +138,7 @@ pub ruleset fits = (fits-row, fits-joined, fits-gate, fits-edge)
 -- So a row is the number that is within y exactly if all its gates are.
 pub row-is : (m : Mode) (L : ℕ) (p : Square) (c : Row) (k x : ℕ) → Bounded m x →
     ((a y : ℕ) → ((j : ℕ) → j < L → Within m (min a (p k j)) (c j) y) ↔ Within m a x y) → modalRow m L p c k ≡ x
-row-is m L p c k x f h =
-    same-within m _ x (fits-row m L p c k) f (λ a y. Iff·trans (within-row m L p c k a y) (h a y))
+row-is m L p c k x f h = same-within m _ x (fits-row m L p c k) f (λ a y. Iff·trans (within-row m L p c k a y) (h a y))
 
 -- After a test that holds stands the value itself.
 pub gate-two : (m : Mode) (v : ℕ) → v ≤ 2 → gate m 2 v ≡ v

@@ -80,8 +80,7 @@ module _ (s : List ℕ) (A : ℕ) (out : List ℕ) (e : translateAnswer s A (len
 
   words-first : take (ruleSize * translateAnswer s A (length out) .count) (translateAfter s A out) ≡ words (translation s A)
   unfolding translateAfter written
-  words-first =
-      rw (eq-eqb _ 0 e, counted, sym (words-length (translation s A))) (take-append-seam (words (translation s A)) _)
+  words-first = rw (eq-eqb _ 0 e, counted, sym (words-length (translation s A))) (take-append-seam (words (translation s A)) _)
 
   -- Of all rules' words, those of all but the last.
   others-first : take (ruleSize * pred (translateAnswer s A (length out) .count)) (translateAfter s A out) ≡ others s A

@@ -59,6 +59,13 @@ module _ {s : List ℕ} {A L : ℕ} {cell grid : ℕ → ℕ → ℕ} (w : WellF
     unfolding meant
     path-row {q} p k h = rw (p .child .sorted, p .moded, p .continued) at (before q (p .child .earlier) k h)
 
+    -- An earlier record is one, and the label of a record is a symbol.
+    inside : {q : ℕ} → q < r → q < count s
+    inside b = omega arith
+
+    labelled : {q : ℕ} → q < count s → label A q < 16_384
+    labelled b = omega arith
+
     -- By the kind.
     settled : (K : Kind) → kindAt s r ≡ K → Shape s L cell K r
         → treeAt s r ≡ nodeOf K (fieldA s r) (fieldB s r) (treeAt s)
@@ -73,33 +80,24 @@ module _ {s : List ℕ} {A L : ℕ} {cell grid : ℕ → ℕ → ℕ} (w : WellF
         let b : fieldA s r < 16_000 = omega arith in
         rw t (simp (same-says L grid low, literal-label, literal-column) (by-row (λ k h. same k (fieldA s r) h a)))
     settled (modal m) e (p, b) t =
-        let a : fieldA s r < count s = omega arith in
-        rw t (simp (same-says L grid low, literal-label)
+        rw t (simp (same-says L grid low, literal-label, inside (p .child .earlier))
         (by-row (λ k h. path-row p k h ∙ modal-congruence m L _ _ _ k (λ j i _. form-row b j i))))
     settled (move v) e c t =
-        let x : label A r < 16_384 = omega arith in
-        let y : label A (contAt s r) < 16_384 = omega arith in
-        rw t (simp (move-says L grid low, literal-label)
+        rw t (simp (move-says L grid low, literal-label, labelled l, labelled c)
         (by-row (λ k h. modal-congruence _ L _ _ _ k (λ j _ _. literal-label (contAt s r) j c))))
     settled test e (c, b) t =
-        let a : fieldA s r < count s = omega arith in
-        let x : label A (fieldA s r) < 16_384 = omega arith in
-        let y : label A (contAt s r) < 16_384 = omega arith in
-        rw t (simp (test-says L grid low, literal-label) (by-row (λ k h.
+        let a = inside (b .earlier) in
+        rw t (simp (test-says L grid low, literal-label, labelled a, labelled c) (by-row (λ k h.
         ap (λ (u : ℕ). gate (modeAt s r) u (X (contAt s r) k)) (form-row b k h)
         ∙ sym (modal-test _ L _ _ k h (low k _)))))
     settled choice e (p, q) t =
-        let a : fieldA s r < count s = omega arith in
-        let b : fieldB s r < count s = omega arith in
-        rw t (simp (join-says L grid low, literal-label) (by-row (λ k h.
+        rw t (simp (join-says L grid low, literal-label, inside (p .child .earlier), inside (q .child .earlier)) (by-row (λ k h.
         ap₂ (joined (modeAt s r)) (path-row p k h) (path-row q k h) ∙ sym (modal-choice _ L _ _ _ k))))
     settled sequence e (p, q) t =
-        let a : fieldA s r < count s = omega arith in
-        rw t (simp (same-says L grid low, literal-label) (by-row (λ k h.
+        rw t (simp (same-says L grid low, literal-label, inside (p .child .earlier)) (by-row (λ k h.
         path-row p k h ∙ modal-congruence _ L _ _ _ k (λ j i _. path-row q j i) ∙ sym (modal-sequence _ L _ _ _ k))))
     settled star e (c, p, (v, strict)) t =
-        let a : fieldA s r < count s = omega arith in
-        rw t (simp (join-says L grid low, literal-label) (Iff·trans
+        rw t (simp (join-says L grid low, literal-label, inside (p .child .earlier)) (Iff·trans
         (by-row (λ k h. ap (joined (modeAt s r) (X (contAt s r) k)) (path-row p k h)))
         (star-solves (modeAt s r) L _ v strict (X (contAt s r)) (λ k _. low k _) (X r))))
     settled (shorthand σ) e sh t = absurd sh

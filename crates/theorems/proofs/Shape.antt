@@ -104,8 +104,7 @@ module _ {s : List ℕ} {A : ℕ} (w : WellFormed core s A) (r : ℕ) (l : r < c
     -- and to a second one, which isn't the first.
     second-part : {σ : Sort} → useA K ≡ child σ → useB K ≡ child path
         → let c = handed K false (fieldB s r) r (context s r) in PathChild s r (fieldB s r) (c .mode) (c .continuation)
-    second-part {σ} t u =
-        part-of (second-child u) (rw e at (second-context w r l {σ = σ} (rw e t) {τ = path} (rw e u)))
+    second-part {σ} t u = part-of (second-child u) (rw e at (second-context w r l {σ = σ} (rw e t) {τ = path} (rw e u)))
 
     -- A path's continuation is a record.
     continued : sortOf K ≡ path → contAt s r < count s
