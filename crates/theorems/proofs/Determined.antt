@@ -83,18 +83,17 @@ module _ {s : List ℕ} {A : ℕ} (w : WellFormed core s A) where
         let q = parent s r in
         let (b, u) = has-parent w r (path-before w r l p) in
         let a = child-earlier w r q b u in
-        go q b (onto-in t q b (omega arith)) (used-in s r q u)
-      where
-        go : (q : ℕ) → q < count s → (sortAt s q ≡ path → Onto s q (contAt s q)) → InFirst s r q ⊎ InSecond s r q
-            → Onto s r (contAt s r)
-        go q b up (inl (σ, e, f)) =
-            let fits = rw e at (w .first q b) in
-            let z : σ ≡ path = sym (fits .1) ∙ ap (sortAt s) f ∙ p in
-            rw f at (first-onto s L cell q b up (kindAt s q) refl (shape q b) cc)
-        go q b up (inr (σ, e, f)) =
-            let fits = rw e at (w .second q b) in
-            let z : σ ≡ path = sym (fits .1) ∙ ap (sortAt s) f ∙ p in
-            rw f at (second-onto s L cell q b up (kindAt s q) refl (shape q b) cc)
+        let up = onto-in t q b (omega arith) in
+        elim (used-in s r q u) [
+          | inl (σ, e, f) ↦
+              let fits = rw e at (w .first q b) in
+              let z : σ ≡ path = sym (fits .1) ∙ ap (sortAt s) f ∙ p in
+              rw f at (first-onto s L cell q b up (kindAt s q) refl (shape q b) cc)
+          | inr (σ, e, f) ↦
+              let fits = rw e at (w .second q b) in
+              let z : σ ≡ path = sym (fits .1) ∙ ap (sortAt s) f ∙ p in
+              rw f at (second-onto s L cell q b up (kindAt s q) refl (shape q b) cc)
+        ]
 
     -- So every path goes on.
     pub onto : (r : ℕ) → r < count s → sortAt s r ≡ path → Onto s r (contAt s r)
