@@ -8,14 +8,14 @@ use Prim.Native.Nat.{ℕ, zero, suc, _+_, _≤_, _<_, zero-le}
 use mathlib.Core.Path.{_≡_, refl, sym, ap, _∙_}
 use mathlib.Core.Bool.{true≢false}
 use mathlib.Core.List.{List}
-use mathlib.Core.Logic.{_⊎_, inl, inr, _↔_}
+use mathlib.Core.Logic.{inl, inr, _↔_}
 use native.Mathlib.Omega.{arith}
 use Rattle.meaning.specs.Record.{Kind, columnsOf, core, count, kindAt, fieldA, fieldB, Sort, formula, path, sortOf, Mode, child, useA, useB, parent}
 use Rattle.meaning.specs.WellFormed.{WellFormed}
 use Rattle.meaning.specs.Value.{Row}
 use Rattle.meaning.proofs.Cases.{by-kind}
-use Rattle.meaning.proofs.Nodes.{differs}
-use Rattle.meaning.proofs.Parents.{InFirst, InSecond, used-in, has-parent, child-earlier}
+use Rattle.meaning.proofs.Nodes.{either-sort, differs}
+use Rattle.meaning.proofs.Parents.{used-in, has-parent, child-earlier}
 use Rattle.meaning.proofs.Climbing.{path-before}
 use Rattle.meaning.proofs.Modality.{modal-bound, modal-congruence}
 use Rattle.meaning.proofs.Onward.{values-bound}
@@ -140,11 +140,8 @@ module _ (s : List ℕ) (L : ℕ) (cell : ℕ → ℕ → ℕ) where
   made-agrees : (X Y : ℕ → Row) (r : ℕ) → (sortAt s r ≡ path → Agree (X (contAt s r)) (Y (contAt s r)))
       → Agree (made X r) (made Y r)
   unfolding meant
-  made-agrees X Y r e k l = go (sortAt s r) refl
-    where
-      go : (σ : Sort) → sortAt s r ≡ σ → meant s L cell σ X r k ≡ meant s L cell σ Y r k
-      go formula t = refl
-      go path t = modal-congruence _ L _ _ _ k (λ j i _. e t j i)
+  made-agrees X Y r e k l = elim (either-sort (sortAt s r))
+      [ inl t ↦ rw t refl | inr t ↦ rw t (modal-congruence _ L _ _ _ k (λ j i _. e t j i)) ]
 
   -- Labels X d of which each is made from those a step before.
   abbrev Steps : (ℕ → ℕ → Row) → Type 0
