@@ -47,11 +47,8 @@ module _ {T : Type 0} (w : ℕ) (f : ℕ → List T) (sized : (k : ℕ) → leng
   unfolding each
   getD-each d i l zero = λ k b. absurd (omega arith)
   getD-each d i l (suc n) = all-suc (λ k. getD (each (suc n) f) (w * k + i) d ≡ getD (f k) i d) n
-      (λ k b. List·getD-append (each n f) (f n) d (w * k + i) (rw (length-each n) (inside k b)) ∙ getD-each d i l n k b)
+      (λ k b. List·getD-append (each n f) (f n) d (w * k + i) (rw (length-each n) (omega (arith, mul-le-mul-left w b))) ∙ getD-each d i l n k b)
       (rw (← length-each n) (getD-append-add (each n f) (f n) i d))
-    where
-      inside : (k : ℕ) → k < n → w * k + i < w * n
-      inside k b = omega (arith, mul-le-mul-left w b)
 
 -- ---- one member each
 -- There are n.

@@ -69,17 +69,15 @@ module _ (v : ℕ) (z : 0 < v) (L : ℕ) (p : Square) (j : ℕ) where
   -- Up to n passes each has added an instant, or they are enough.
   grown-or-enough : (n : ℕ) → (n ≤ tally v L (sooner n)) ⊎ Enough n
   grown-or-enough zero = inl zero-le
-  grown-or-enough (suc n) = elim (grown-or-enough n) [ inl a ↦ more a | inr e ↦ inr (later e) ]
-    where
-      later : Enough n → Enough (suc n)
-      later e m k l a = le-trans (e m k l a) (sooner-grows n k)
-
-      same : tally v L (sooner (suc n)) ≤ tally v L (sooner n) → Enough n
-      same s = closed-enough n (tally-stays v L (sooner n) (sooner (suc n)) (λ k _. sooner-grows n k) s)
-
-      more : n ≤ tally v L (sooner n) → (suc n ≤ tally v L (sooner (suc n))) ⊎ Enough (suc n)
-      more a = elim (le-or-lt (tally v L (sooner (suc n))) (tally v L (sooner n)))
-          [ inl s ↦ inr (later (same s)) | inr g ↦ inl (omega arith) ]
+  grown-or-enough (suc n) =
+      let later : Enough n → Enough (suc n) = λ e m k l a. le-trans (e m k l a) (sooner-grows n k) in
+      elim (grown-or-enough n) [
+        | inl a ↦ elim (le-or-lt (tally v L (sooner (suc n))) (tally v L (sooner n))) [
+          | inl s ↦ inr (later (closed-enough n (tally-stays v L (sooner n) (sooner (suc n)) (λ k _. sooner-grows n k) s)))
+          | inr g ↦ inl (omega arith)
+        ]
+        | inr e ↦ inr (later e)
+      ]
 
   -- There is no room for one instant more than L.
   star-enough : Enough (suc L)

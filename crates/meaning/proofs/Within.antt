@@ -64,13 +64,14 @@ swapped a b d y h = omega arith
 -- Up to the greatest of many: up to each.
 pub within-greatest : (m : Mode) (L : ℕ) (f : Row) (a x y : ℕ) →
     Within m (min a (greatest L f)) x y ↔ ((i : ℕ) → i < L → Within m (min a (f i)) x y)
-within-greatest m L f a x y = (λ h i l. within-less m _ _ x y (omega (arith, greatest-member L f i l)) h, each m)
-  where
-    each : (m : Mode) → ((i : ℕ) → i < L → Within m (min a (f i)) x y) → Within m (min a (greatest L f)) x y
-    each diamond h = unfold Within in swapped a x _ y (min-greatest L f (min a x) y (λ i l. swapped a (f i) x y (h i l)))
-    each box h =
-        unfold Within in
-        swapped a (min 2 y) _ x (min-greatest L f (min a (min 2 y)) x (λ i l. swapped a (f i) (min 2 y) x (h i l)))
+unfolding Within
+within-greatest m L f a x y = (
+  λ h i l. within-less m _ _ x y (omega (arith, greatest-member L f i l)) h,
+  elim m [
+    | diamond ↦ λ h. swapped a x _ y (min-greatest L f (min a x) y (λ i l. swapped a (f i) x y (h i l)))
+    | box ↦ λ h. swapped a (min 2 y) _ x (min-greatest L f (min a (min 2 y)) x (λ i l. swapped a (f i) (min 2 y) x (h i l)))
+  ],
+)
 
 least-of-two : (t u v : ℕ) → t ≤ min u v ↔ (t ≤ u × t ≤ v)
 least-of-two t u v = (omega arith, omega arith)

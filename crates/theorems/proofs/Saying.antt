@@ -46,13 +46,8 @@ module _ (P : Rule → Type 0) where
   every-listed [] = (λ _. tt, λ _ i l. absurd (omega arith))
   every-listed (ρ ∷ ρs) = let r = every-listed ρs in (
     λ h. (rw rule-first at (h 0 (omega arith)), r .0 (λ i l. rw rule-next at (h (suc i) (omega arith)))),
-    λ h. back (r .1 (h .1)) (h .0),
+    λ h. elim [ zero ↦ λ l. rw rule-first (h .0) | suc i ↦ λ l. rw rule-next (r .1 (h .1) i (le-of-suc-le-suc l)) ],
   )
-    where
-      back : ((i : ℕ) → i < length ρs → P (ruleAt (words ρs) i)) → P ρ
-          → (i : ℕ) → i < suc (length ρs) → P (ruleAt (words (ρ ∷ ρs)) i)
-      back t h zero l = rw rule-first h
-      back t h (suc i) l = rw rule-next (t i (le-of-suc-le-suc l))
 
   -- As they are read from the words; there are as many as the list has.
   pub every-word : (ρs : List Rule) → ((i : ℕ) → i < ruleCount (words ρs) → P (ruleAt (words ρs) i)) ↔ All P ρs
