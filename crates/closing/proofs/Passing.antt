@@ -2,12 +2,12 @@
 -- those ahead are as they were.
 use Prim.Native.Nat.{ℕ, _+_, _<_, _≤_}
 use mathlib.Core.Path.{_≡_, refl, _∙_}
-use mathlib.Core.List.{List}
 use mathlib.Core.Logic.{⊎-elim}
+use mathlib.Core.List.{List}
 use native.Mathlib.Nat.{le-refl}
 use native.Mathlib.Omega.{arith}
-use borrow.Author.Count.{below-more}
 use lib.ListN.{length, getD}
+use borrow.Author.Count.{below-more}
 use Rattle.meaning.proofs.Bounds.{le-or-lt}
 use Rattle.rows.specs.Cells.{width, area, at, Holds, Rowed}
 use Rattle.rows.proofs.Diagonal.{Diagonal, diagonal-self}

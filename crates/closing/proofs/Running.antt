@@ -2,77 +2,46 @@
 -- is what there is with no pass, or the row of the instant beside, capped by the value to it; at the edge, the former.
 -- Rows are written one after the other, each after the one that it needs.
 use Prim.Native.Nat.{ℕ, _<_, _≤_, min, max}
-use mathlib.Core.Path.{_≡_, refl, subst, _∙_}
-use mathlib.Core.Bool.{Bool, true, false, cond}
-use mathlib.Core.Logic.{_⊎_, inl, inr}
+use mathlib.Core.Path.{_≡_, _∙_}
 use mathlib.Core.List.{List}
-use native.Mathlib.Nat.{le-refl, le-trans, le-antisymm, max-le}
+use native.Mathlib.Nat.{le-refl, le-trans, le-antisymm}
 use native.Mathlib.Omega.{arith}
-use lib.Dec.{eqb}
+use native.Mathlib.Decide.{ℕ-discrete}
 use lib.ListN.{length}
-use borrow.Author.Tests.{eqb-true, eqb-false}
-use Rattle.meaning.specs.Record.{Way}
-use Rattle.meaning.specs.Value.{Square, passes, starSquare}
-use Rattle.meaning.proofs.Bounds.{le-or-lt, le-above}
-use Rattle.meaning.proofs.Onward.{move-bound}
+use Rattle.meaning.specs.{Record.Way, Value.Square, Value.starSquare, Value.sequenceSquare}
+use Rattle.meaning.proofs.{Bounds.le-above, Onward.move-bound, Star.star-unfold}
 use Rattle.meaning.proofs.Reach.{Beside, beside-one, move-beside, sequence-elim}
-use Rattle.meaning.proofs.Star.{star-unfold}
 use Rattle.rows.specs.Cells.{width, area, at, Holds, Rowed}
 use Rattle.closing.specs.Closing.{noPass, by, Moving}
-use Rattle.closing.proofs.Closure.{star-through, no-pass-cell}
+use Rattle.closing.proofs.Closure.{star-through, no-pass, no-pass-cell}
 
 -- ---- the law
--- No pass has no more than the square with 2 from each instant to itself.
-none-no-pass : (L : ℕ) (p : Square) (k j : ℕ) → passes L p 0 k j ≤ noPass p k j
-unfolding passes noPass
-none-no-pass L p k j = go (eqb j k)
-  where
-    go : (t : Bool) → cond t 2 0 ≤ cond t 2 (p k j)
-    go true = le-refl 2
-    go false = omega arith
-
 module _ (w : Way) {L : ℕ} {p : Square} (m : Moving w L p) where
   moving-low : (k j : ℕ) → k < L → j < L → p k j ≤ 2
   moving-low k j h l = le-trans (m k j h l) (move-bound w k j)
 
-  -- A value of the star is one with no pass, or comes by way of the instant beside.
-  star-ways : (k j v : ℕ) → k < L → 0 < v → v ≤ starSquare L p k j
-      → (v ≤ noPass p k j) ⊎ ((i : ℕ) × (i < L) × Beside w k i × (v ≤ p k i) × (v ≤ starSquare L p i j))
-  star-ways k j v h z a = elim (le-or-lt v (passes L p 0 k j)) [
-    | inl b ↦ inl (le-trans b (none-no-pass L p k j))
-    | inr c ↦
-        let (i, l, x, y) = sequence-elim L p (starSquare L p) k j v z (omega (arith, star-unfold L p k j h)) in
-        inr (i, l, move-beside w k i (le-trans z (le-trans x (m k i h l))), x, y)
-  ]
+  -- A pass of p and then q has no more than b, if that is so by way of the instant beside.
+  pass-beside : (q : Square) (k j b : ℕ) → k < L → ((i : ℕ) → i < L → Beside w k i → min (p k i) (q i j) ≤ b)
+      → sequenceSquare L p q k j ≤ b
+  pass-beside q k j b h only = le-above _ b (λ v z a.
+      let (i, l, x, y) = sequence-elim L p q k j v z a in
+      omega (arith, only i l (move-beside w k i (omega (arith, m k i h l)))))
 
   -- Where there is an instant beside.
   pub star-run : (k i j : ℕ) → k < L → i < L → j < L → Beside w k i
       → starSquare L p k j ≡ max (noPass p k j) (min (starSquare L p i j) (noPass p k i))
   star-run k i j h g l b =
+      let own = no-pass-cell moving-low k i h g in
+      let one = pass-beside (starSquare L p) k j (min (p k i) (starSquare L p i j)) h (λ o _ d. rw (beside-one w k i o b d) (le-refl _)) in
       le-antisymm
-      (le-above (starSquare L p k j) _ (λ v z a. most v (star-ways k j v h z a)))
-      (max-le (no-pass-cell moving-low k j h l .1)
-      (le-above _ _ (λ v z a.
-      star-through L p k i j v h z (le-trans (omega arith) (no-pass-cell moving-low k i h g .1)) (omega arith))))
-    where
-      most : (v : ℕ) → (v ≤ noPass p k j) ⊎ ((i : ℕ) × (i < L) × Beside w k i × (v ≤ p k i) × (v ≤ starSquare L p i j))
-          → v ≤ max (noPass p k j) (min (starSquare L p i j) (noPass p k i))
-      most v (inl x) = omega arith
-      most v (inr (q, ql, d, x, y)) =
-          let e = beside-one w k i q b d in
-          let x′ : v ≤ p k i = subst (λ q. v ≤ p k q) e x in
-          let y′ : v ≤ starSquare L p i j = subst (λ q. v ≤ starSquare L p q j) e y in
-          omega (arith, no-pass-cell moving-low k i h g .0)
+      (omega (arith, star-unfold L p k j h, no-pass L p k j (moving-low k j h l), one, own .0))
+      (omega (arith, no-pass-cell moving-low k j h l .1, own .1, star-through L p k i j h))
 
   -- Where there is none.
   pub star-edge : (k j : ℕ) → k < L → j < L → ((i : ℕ) → i < L → Beside w k i → ⊥) → starSquare L p k j ≡ noPass p k j
   star-edge k j h l none =
-      le-antisymm
-      (le-above (starSquare L p k j) (noPass p k j) (λ v z a. elim (star-ways k j v h z a) [
-        | inl x ↦ x
-        | inr (q, ql, d, _, _) ↦ absurd (none q ql d)
-      ]))
-      (no-pass-cell moving-low k j h l .1)
+      let no = pass-beside (starSquare L p) k j 0 h (λ i g d. absurd (none i g d)) in
+      omega (arith, star-unfold L p k j h, no, no-pass L p k j (moving-low k j h l), no-pass-cell moving-low k j h l .1)
 
 -- ---- row by row
 -- The rows that are done are the star's, and the others have no pass.
@@ -94,29 +63,26 @@ running-none w m h none = record {
 
 -- Then row k too, from the row of the instant i beside it.
 module _ {w : Way} {L : ℕ} {p : Square} {D : ℕ → Type 0} {s new : List ℕ} {k i : ℕ}
-    (r : Running w L p D s) (short : L ≤ width) (h : k < L) (l : i < L) (b : Beside w k i) (no : D k → ⊥) (yes : D i)
+    (r : Running w L p D s) (short : L ≤ width) (h : k < L) (l : i < L) (b : Beside w k i) (fresh : D k → ⊥) (made : D i)
     (q : Rowed k (by (at s) i k) s new) where
   running-row : (j : ℕ) → j < L → at new k j ≡ starSquare L p k j
   unfolding by
   running-row j g =
       q .row j (omega arith)
-      ∙ omega (arith, r .left k j h g no, r .left k i h l no, r .done i j l g yes, star-run w (r .moving) k i j h l g b)
+      ∙ omega (arith, r .left k j h g fresh, r .left k i h l fresh, r .done i j l g made, star-run w (r .moving) k i j h l g b)
 
   pub running-more : {E : ℕ → Type 0} → E k → ((q : ℕ) → (q ≡ k → ⊥) → E q → D q) → ((q : ℕ) → D q → E q) → Running w L p E new
   running-more {E} own fewer more = record {
     moving = r .moving;
     size = q .size;
-    done = λ o j a c d. go o j a c d (eqb o k) refl;
+    done = λ o j a c d. elim (ℕ-discrete o k) [
+      | yes e ↦ rw e (running-row j c)
+      | no n ↦ q .others o j n (omega arith) ∙ r .done o j a c (fewer o n d)
+    ];
     left = λ o j a c n.
         let ne : o ≡ k → ⊥ = λ z. n (rw z own) in
         q .others o j ne (omega arith) ∙ r .left o j a c (λ d. n (more o d));
   }
-    where
-      go : (o j : ℕ) → o < L → j < L → E o → (t : Bool) → eqb o k ≡ t → at new o j ≡ starSquare L p o j
-      go o j a c d true e = rw (eqb-true o k e) (running-row j c)
-      go o j a c d false e =
-          let ne = eqb-false o k e in
-          q .others o j ne (omega arith) ∙ r .done o j a c (fewer o ne d)
 
 pub running-done : {w : Way} {L : ℕ} {p : Square} {Done : ℕ → Type 0} {s : List ℕ} → Running w L p Done s
     → ((k : ℕ) → k < L → Done k) → Holds L s (starSquare L p)

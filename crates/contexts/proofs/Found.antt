@@ -2,21 +2,18 @@
 -- parents are later: so every path is under a modality's. Once all under each modality's path is entered, every path is.
 use Prim.Native.Nat.{ℕ, zero, suc, _+_, _*_, _<_, _≤_}
 use mathlib.Core.Path.{_≡_, refl, sym, _∙_}
-use mathlib.Core.List.{List}
 use mathlib.Core.Logic.{_⊎_, inl, inr}
+use mathlib.Core.List.{List}
 use native.Mathlib.Omega.{arith}
+use lib.ListN.{length, replicate, List·getD-eq-default}
 use borrow.Author.Count.{below-more}
-use lib.ListN.{length, getD, replicate, List·getD-eq-default}
 use lib.Seq.{ext-getD}
 use Rattle.meaning.specs.Record.{core, mostRecords, recordSize, count, kindByte, kindAt, kindOf, kinds, fieldA, formula, path, sortOf}
 use Rattle.meaning.specs.Record.{child, useA, useB, parent, columnsOf}
 use Rattle.meaning.specs.WellFormed.{WellFormed}
-use Rattle.meaning.proofs.Bounds.{le-or-lt}
-use Rattle.meaning.proofs.Runs.{length-tabulate, getD-tabulate}
-use Rattle.meaning.proofs.Nodes.{either-sort, differs}
-use Rattle.meaning.proofs.Parents.{used-in, has-parent, child-earlier}
-use Rattle.meaning.proofs.Climbing.{path-before}
-use Rattle.records.proofs.Numbers.{formula-number}
+use Rattle.meaning.proofs.{Bounds.le-or-lt, Runs.length-tabulate, Runs.getD-tabulate, Nodes.either-sort, Nodes.differs}
+use Rattle.meaning.proofs.{Parents.used-in, Parents.has-parent, Parents.child-earlier, Climbing.path-before}
+use Rattle.records.proofs.{Ranges.again, Numbers.formula-number}
 use Rattle.paths.specs.Asking.{Formed}
 use Rattle.contexts.specs.Contexts.{entryBy, contextsOf, Entered, PathUnder, itself, first, second, Handed}
 use Rattle.contexts.proofs.Handing.{none-first, none-second}
@@ -32,14 +29,9 @@ pub record DoneBefore (s : List ℕ) (q : ℕ) (contexts : List ℕ) : Type 0 wh
   pub formulas : (r : ℕ) → sortOf (kindAt s r) ≡ formula → Entered s contexts r
   pub done : (j : ℕ) → j < q → PathDone s contexts j
 
-zeros-at : (n i : ℕ) → _≡_ {A = ℕ} (getD (replicate n 0) i 0) 0
-zeros-at zero i = refl
-zeros-at (suc n) zero = refl
-zeros-at (suc n) (suc i) = zeros-at n i
-
 pub done-none : (s : List ℕ) → DoneBefore s 0 (replicate mostRecords 0)
 unfolding entryBy
-done-none s = record { size = refl; formulas = λ r e. rw e (zeros-at mostRecords r); done = λ j l. absurd (omega arith) }
+done-none s = record { size = refl; formulas = λ r e. rw e (again mostRecords r 0); done = λ j l. absurd (omega arith) }
 
 module _ {s contexts : List ℕ} {q : ℕ} (h : DoneBefore s q contexts) where
   -- A record that is no modality changes nothing,

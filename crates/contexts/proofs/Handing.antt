@@ -1,25 +1,21 @@
 -- Handing contexts down a path. A part stands under what the path's kind hands it, so what is asked of the path is asked
 -- of each of its parts. Once the path's own entry is stored and its parts are handed theirs, all under it is entered, and
 -- what was entered before still is.
-use Prim.Native.Nat.{ℕ, _*_, _/_, _+_, _<_, _≤_}
+use Prim.Native.Nat.{ℕ, _+_, _*_, _/_, _<_, _≤_}
 use mathlib.Core.Path.{_≡_, refl, sym, ap, _∙_}
 use mathlib.Core.Bool.{Bool, true, false, true≢false}
-use mathlib.Core.List.{List}
 use mathlib.Core.Logic.{_⊎_, inl, inr}
-use native.Mathlib.Decide.{ℕ-discrete}
+use mathlib.Core.List.{List}
 use native.Mathlib.Omega.{arith}
+use native.Mathlib.Decide.{ℕ-discrete}
 use lib.ListN.{length, set, length-set}
 use lib.Seq.{getD-set-same, getD-set-other}
-use Rattle.meaning.specs.Record.{core, Kind, choice, sequence, star, mostRecords, count, kindByte, kindAt, kindOf, kinds, fieldA, fieldB}
-use Rattle.meaning.specs.Record.{formula, path, Use, unused, atomNumber, child, useA, useB, columnsOf}
-use Rattle.meaning.specs.Record.{numberOf, modal}
-use Rattle.meaning.specs.Translation.{handed, context}
-use Rattle.meaning.specs.WellFormed.{WellFormed, Fits}
+use Rattle.meaning.specs.Record.{core, Kind, mostRecords, count, kindByte, kindAt, kindOf, kinds, fieldA, fieldB, formula, path, Use}
+use Rattle.meaning.specs.Record.{unused, atomNumber, child, useA, useB, columnsOf, numberOf, modal}
+use Rattle.meaning.specs.{Translation.handed, Translation.context, WellFormed.WellFormed, WellFormed.Fits}
 use Rattle.meaning.proofs.Climbing.{path-before, continuation-record, first-context, second-context}
 use Rattle.records.specs.Code.{modeOf}
-use Rattle.records.proofs.Ranges.{stretch}
-use Rattle.records.proofs.Numbers.{modal-kind, either-of, path-number}
-use Rattle.records.proofs.Held.{star-second}
+use Rattle.records.proofs.{Ranges.stretch, Numbers.modal-kind, Numbers.either-of, Numbers.path-number, Held.star-second}
 use Rattle.contexts.specs.Contexts.{packed, entryBy, Entered, PathUnder, itself, first, second, Given, Handed}
 
 -- ---- kinds with no path among their children
@@ -86,33 +82,20 @@ module _ {s : List ℕ} {p own : ℕ} {contexts : List ℕ} (g : Given s p own c
   own-size = length-set contexts p own ∙ g .size
 
   -- The mode of its own context.
-  own-mode : own / 256 ≡ numberOf (modal (context s p .mode))
+  pub own-mode : own / 256 ≡ numberOf (modal (context s p .mode))
   own-mode =
       let w = g .whole .formed in
       omega (arith, g .word, continuation-record w p (path-before w p (g .index) (g .sorted)), w .few)
 
   -- Its first part, once its own entry is stored,
-  pub choice-first : kindByte s p ≡ 8 → (fieldA s p < p) × Given s (fieldA s p) own with-own
-  unfolding handed kindOf kinds columnsOf
-  choice-first e = first-given (g .whole .formed) (g .index) {K = choice} (rw e) refl own-size (g .word)
-
-  pub sequence-first : kindByte s p ≡ 9 → (fieldA s p < p) × Given s (fieldA s p) (256 * (own / 256) + fieldB s p) with-own
-  unfolding handed kindOf kinds columnsOf
-  sequence-first e = first-given (g .whole .formed) (g .index) {K = sequence} (rw e) refl own-size (rw own-mode)
-
-  pub star-part : kindByte s p ≡ 10 → (fieldA s p < p) × Given s (fieldA s p) (256 * (own / 256) + p) with-own
-  unfolding handed kindOf kinds columnsOf
-  star-part e = first-given (g .whole .formed) (g .index) {K = star} (rw e) refl own-size (rw own-mode)
+  pub first-part : {K : Kind} {word : ℕ} → kindAt s p ≡ K → useA K ≡ child path
+      → word ≡ packed (handed K true (fieldB s p) p (context s p)) → (fieldA s p < p) × Given s (fieldA s p) word with-own
+  first-part e a o = first-given (g .whole .formed) (g .index) e a own-size o
 
   -- and its second, once the first is handed its own.
-  module _ {a : ℕ} {before mid : List ℕ} (x : Handed s a before mid) where
-    pub choice-second : kindByte s p ≡ 8 → (fieldB s p < p) × Given s (fieldB s p) own mid
-    unfolding handed kindOf kinds columnsOf
-    choice-second e = second-given (g .whole .formed) (g .index) {K = choice} (rw e) refl (x .size) refl (g .word)
-
-    pub sequence-second : kindByte s p ≡ 9 → (fieldB s p < p) × Given s (fieldB s p) own mid
-    unfolding handed kindOf kinds columnsOf
-    sequence-second e = second-given (g .whole .formed) (g .index) {K = sequence} (rw e) refl (x .size) refl (g .word)
+  pub second-part : {K : Kind} {a : ℕ} {before mid : List ℕ} → Handed s a before mid → kindAt s p ≡ K → useA K ≡ child path
+      → useB K ≡ child path → own ≡ packed (handed K false (fieldB s p) p (context s p)) → (fieldB s p < p) × Given s (fieldB s p) own mid
+  second-part x e a b o = second-given (g .whole .formed) (g .index) e a (x .size) b o
 
   -- ---- what is entered
   own-entered : Entered s with-own p

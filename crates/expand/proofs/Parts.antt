@@ -5,17 +5,16 @@ use mathlib.Core.Path.{_≡_, refl, sym}
 use mathlib.Core.Bool.{Bool, true, false, cond, true≢false}
 use mathlib.Core.List.{List}
 use native.Mathlib.Omega.{arith}
+use native.Mathlib.Decide.{ℕ-discrete}
 use lib.Dec.{eqb, ltb}
-use borrow.Author.Tests.{lt-ltb, le-ltb}
-use Rattle.meaning.specs.Record.{Sort, Use, unused, atomNumber, child, useA, useB, kindAt, fieldA, fieldB, bytesOf, sortOf}
-use Rattle.meaning.specs.Tree.{treeAt}
-use Rattle.meaning.specs.WellFormed.{Fits}
-use Rattle.meaning.proofs.Fails.{and-holds}
-use Rattle.meaning.proofs.Nodes.{tree-of}
-use Rattle.expand.specs.Steps.{oneChild, noChild, atomStep, partA, byte, stepsOf, fieldFrom, fieldSize, ownKind, ownA, ownB, partOf, partUse, stepFrom, stepSize}
+use borrow.Author.Tests.{eq-eqb, ne-eqb, lt-ltb, le-ltb}
+use Rattle.meaning.specs.Record.{Sort, Use, unused, atomNumber, child, useA, kindAt, fieldA, fieldB, bytesOf, sortOf}
+use Rattle.meaning.specs.{Tree.treeAt, WellFormed.Fits}
+use Rattle.meaning.proofs.{Fails.and-holds, Nodes.tree-of}
+use Rattle.expand.specs.Steps.{oneChild, noChild, atomStep, partA, byte, stepsOf, fieldFrom, fieldSize, ownKind, ownA, ownB, partOf}
+use Rattle.expand.specs.Steps.{partUse, stepFrom, stepSize}
 use Rattle.expand.specs.Expanding.{Expandable, bytesAt, sizeAt, stepBytes, stepCount, isChild, isAtom, fits, many}
-use Rattle.expand.proofs.Stepping.{stepsFrom, node-from}
-use Rattle.expand.proofs.Sized.{stepsSize, node-size}
+use Rattle.expand.proofs.{Stepping.stepsFrom, Stepping.node-from, Sized.stepsSize, Sized.node-size}
 
 is-child : (u : Use) → isChild u ≡ true → (σ : Sort) × (u ≡ child σ)
 unfolding isChild
@@ -29,9 +28,10 @@ is-atom unused e = absurd (true≢false (sym e))
 is-atom atomNumber e = refl
 is-atom (child σ) e = absurd (true≢false (sym e))
 
-either-below : (c : Bool) (x y m : ℕ) → x < m → y < m → cond c x y < m
-either-below true x y m h l = h
-either-below false x y m h l = l
+-- What holds of two numbers holds of one of the two.
+pub either : (P : ℕ → Type 0) (c : Bool) {x y : ℕ} → P x → P y → P (cond c x y)
+either P true h l = h
+either P false h l = l
 
 -- What a row of steps of record r writes, and how many records that are.
 module _ (s : List ℕ) (r : ℕ) where
@@ -62,12 +62,10 @@ module _ {s : List ℕ} {r : ℕ} (w : Expandable s r) where
 
       field-fits : Fits s (w .atoms) r (partUse (kindAt s r) d) q
       unfolding partUse partOf
-      field-fits = go (eqb d partA)
-        where
-          go : (first : Bool)
-              → Fits s (w .atoms) r (cond first (useA (kindAt s r)) (useB (kindAt s r))) (cond first (fieldA s r) (fieldB s r))
-          go true = w .formed .first r (w .index)
-          go false = w .formed .second r (w .index)
+      field-fits = elim (ℕ-discrete d partA) [
+        | yes e ↦ rw (eq-eqb d partA e) (w .formed .first r (w .index))
+        | no n ↦ rw (ne-eqb d partA n) (w .formed .second r (w .index))
+      ]
 
       child-fits : (q < r) × (sortOf (kindAt s q) ≡ held .0)
       child-fits = rw (held .1) at field-fits
@@ -97,19 +95,18 @@ module _ {s : List ℕ} {r : ℕ} (w : Expandable s r) where
 
       atom-small : cond (eqb d atomStep) (fieldA s r) 0 < 65_536
       unfolding fits
-      atom-small = go (eqb d atomStep) refl
-        where
-          go : (c : Bool) → eqb d atomStep ≡ c → cond c (fieldA s r) 0 < 65_536
-          go true e =
-              let u = is-atom (useA (kindAt s r)) (rw (lt-ltb d partA own, e) at f) in
-              let a : fieldA s r < w .atoms = rw u at (w .formed .first r (w .index)) in
-              omega (arith, w .formed .atoms)
-          go false e = omega arith
+      atom-small = elim (ℕ-discrete d atomStep) [
+        | yes e ↦
+            let u = is-atom (useA (kindAt s r)) (rw (lt-ltb d partA own, eq-eqb d atomStep e) at f) in
+            let a : fieldA s r < w .atoms = rw u at (w .formed .first r (w .index)) in
+            rw (eq-eqb d atomStep e) (omega (arith, w .formed .atoms))
+        | no n ↦ rw (ne-eqb d atomStep n) (omega arith)
+      ]
 
       pub own-small : (under n : ℕ) → under ≤ many → n ≤ many
           → (ownA d (fieldA s r) under n < 65_536) × (ownB d n < 65_536)
       unfolding ownA ownB
       own-small under n h l = (
-        either-below (ltb d oneChild) _ _ _ (omega arith) (either-below (ltb d noChild) _ _ _ (omega arith) atom-small),
-        either-below (ltb d oneChild) _ _ _ (omega arith) (omega arith),
+        either (λ x. x < 65_536) (ltb d oneChild) (omega arith) (either (λ x. x < 65_536) (ltb d noChild) (omega arith) atom-small),
+        either (λ x. x < 65_536) (ltb d oneChild) (omega arith) (omega arith),
       )

@@ -2,14 +2,15 @@
 -- left is 1. Every step of a kind's row fits the kind.
 use Prim.Native.Nat.{ℕ, _/_, _%_, _<_}
 use mathlib.Core.Path.{_≡_, refl, sym, _∙_}
-use mathlib.Core.Bool.{Bool, true, false, _&&_}
+use mathlib.Core.Bool.{Bool, true, _&&_}
+use mathlib.Core.Logic.{inl, inr}
 use mathlib.Core.List.{List, [], _∷_}
 use native.Mathlib.Omega.{arith}
 use lib.Dec.{ltb}
-use borrow.Author.Tests.{ltb-true}
+use borrow.Author.Tests.{ltb-true, le-ltb}
 use Rattle.meaning.specs.Record.{numberOf, Kind, kinds, kindOf, argumentsOf, columnsOf}
 use Rattle.meaning.specs.Shorthand.{expansion}
-use Rattle.meaning.proofs.Fails.{and-holds}
+use Rattle.meaning.proofs.{Fails.and-holds, Bounds.le-or-lt}
 use Rattle.records.proofs.Ranges.{onward}
 use Rattle.expand.specs.Steps.{partA, byte, formSteps, pathSteps, stepsOf, digits, rowNumber, partUse}
 use Rattle.expand.specs.Expanding.{isChild, isAtom, fits}
@@ -27,11 +28,10 @@ steps-fit number = onward (λ (K : Kind). allFit K (stepsOf K)) 0 48 refl number
 -- A step that fits is a byte.
 fits-byte : (K : Kind) (d : ℕ) → fits K d ≡ true → d < byte
 unfolding fits
-fits-byte K d = go (ltb d partA) refl
-  where
-    go : (own : Bool) → ltb d partA ≡ own → fits K d ≡ true → d < byte
-    go true e h = omega (arith, ltb-true d partA e)
-    go false e h = ltb-true d byte (and-holds (ltb d byte) _ .0 (rw e at h) .0)
+fits-byte K d h = elim (le-or-lt partA d) [
+  | inl l ↦ ltb-true d byte (and-holds (ltb d byte) _ .0 (rw (le-ltb d partA l) at h) .0)
+  | inr l ↦ omega arith
+]
 
 positive : (ds : List ℕ) → 0 < digits ds
 unfolding digits

@@ -2,36 +2,31 @@
 -- a refusal of the records is the answer, and where there is none they are a tree and its size decides.
 use Prim.Native.Nat.{ℕ, pred, _*_, _<_, _≤_, min}
 use mathlib.Core.Path.{_≡_, sym, ap, _∙_}
-use mathlib.Core.Logic.{⊎-elim}
+use mathlib.Core.Logic.{inl, inr}
 use mathlib.Core.List.{List}
 use native.Mathlib.Nat.{zero-add}
 use native.Mathlib.Omega.{arith}
 use lib.ListN.{length, take, drop}
-use lib.Seq.{sets, length-sets, take-append-seam}
-use borrow.Author.Tests.{lt-ltb, ltb-false, eq-eqb, ne-eqb}
-use Rattle.meaning.specs.Run.{written}
+use borrow.Author.Tests.{ltb-false, eq-eqb, ne-eqb, lt-ltb}
+use lib.Seq.{take-append-seam, sets, length-sets}
 use Rattle.meaning.specs.Record.{full, count, recordSize, mostRecords, formula}
-use Rattle.meaning.specs.Tree.{formAt, treeAt, postorder}
 use Rattle.meaning.specs.Refusal.{ofFirst, firstOf, ground10, ground14, formulaGrounds, expandGrounds, wholeForm}
+use Rattle.meaning.specs.{Run.written, Tree.formAt, Tree.treeAt, Tree.postorder, WellFormed.WellFormed}
 use Rattle.meaning.specs.Service.{accepted, expandAnswer, expandAfter}
-use Rattle.meaning.proofs.Bounds.{le-or-lt}
-use Rattle.meaning.specs.WellFormed.{WellFormed}
-use Rattle.meaning.proofs.Accepted.{clear-well-formed}
+use Rattle.meaning.proofs.{Bounds.le-or-lt, Accepted.clear-well-formed, Stores.sets-written}
 use Rattle.meaning.proofs.First.{none-clear, clear-skip, found-stop}
-use Rattle.meaning.proofs.Stores.{sets-written}
-use Rattle.expand.specs.Steps.{treeFrom, treeSize}
 use Rattle.expand.specs.Expanding.{Expandable, bytesAt, sizeAt, many, sizeGrounds, Wrote, Expanded}
+use Rattle.expand.specs.Steps.{treeFrom, treeSize}
 use Rattle.expand.proofs.Sized.{tree-length}
 
 -- ---- the size
 -- Numbers of records that stop at 256 are refused as the numbers themselves are.
 capped : (n room : ℕ) → firstOf (sizeGrounds (min many n) room) ≡ firstOf (sizeGrounds n room)
 unfolding ground14 ofFirst
-capped n room =
-    ⊎-elim
-    (λ (few : n ≤ mostRecords). let e : min many n ≡ n = omega arith in rw e)
-    (λ (more : mostRecords < n). rw (lt-ltb mostRecords (min many n) (omega arith), lt-ltb mostRecords n more))
-    (le-or-lt n mostRecords)
+capped n room = elim (le-or-lt n mostRecords) [
+  | inl few ↦ let e : min many n ≡ n = omega arith in rw e
+  | inr more ↦ rw (lt-ltb mostRecords (min many n) (omega arith), lt-ltb mostRecords n more)
+]
 
 size-fits : (n room : ℕ) → firstOf (sizeGrounds n room) ≡ 0 → (n ≤ mostRecords) × (recordSize * n ≤ room)
 unfolding ground14 ground10
@@ -74,12 +69,6 @@ module _ {s : List ℕ} (w : Expandable s (last s)) {e : ℕ} {old buffer : List
       fit : (e ≤ mostRecords) × (recordSize * e ≤ length out)
       fit = size-fits e (length out) (sym test ∙ z)
 
-      exact : e ≡ wholeForm s
-      exact = omega (arith, size, fit .0)
-
-      long : length (whole s) ≡ recordSize * e
-      long = rw exact (whole-length s)
-
       made : buffer ≡ sets old 0 (whole s)
       unfolding treeFrom
       made = p .whole (fit .0) ∙ rw (w .formed .last)
@@ -89,12 +78,14 @@ module _ {s : List ℕ} (w : Expandable s (last s)) {e : ℕ} {old buffer : List
 
       pub copied : {new : List ℕ} → new ≡ sets out 0 (take (recordSize * e) buffer) → Expanded s out x e new
       copied c =
-          let front : take (recordSize * e) buffer ≡ whole s = rw (made, ← long) (take-front (whole s) old (omega (arith, long, fit .0))) in
+          let exact : e ≡ wholeForm s = omega (arith, size, fit .0) in
+          let long : length (whole s) ≡ recordSize * e = rw exact (whole-length s) in
+          let front : take (recordSize * e) buffer ≡ whole s = rw (made, ← long) (take-front (whole s) old (omega (arith, fit .0))) in
           let n = eq-eqb x 0 z in
           record {
             sized = sized;
             counted = rw n exact;
-            stored = rw n (c ∙ rw front (sets-written (whole s) out (omega (arith, long, fit .1))));
+            stored = rw n (c ∙ rw front (sets-written (whole s) out (omega (arith, fit .1))));
           }
 
 -- ---- the whole answer

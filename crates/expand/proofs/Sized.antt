@@ -8,9 +8,10 @@ use native.Mathlib.Omega.{arith}
 use lib.Dec.{ltb}
 use lib.ListN.{length, length-append}
 use Rattle.meaning.specs.Record.{full, Kind, recordSize, Sort, formula, path, Use, unused, atomNumber, child, sortOf, known}
-use Rattle.meaning.specs.Formula.{Form, Path}
 use Rattle.meaning.specs.Tree.{Tree, asForm, asPath, nodeOf, formFrom, pathFrom, formSize, pathSize}
-use Rattle.expand.specs.Steps.{partA, stepsOf, treeFrom, treeSize, fieldFrom, fieldSize, partOf, partUse, stepFrom, stepSize, nextUnder}
+use Rattle.meaning.specs.Formula.{Form, Path}
+use Rattle.expand.specs.Steps.{partA, stepsOf, treeFrom, treeSize, fieldFrom, fieldSize, partOf, partUse, stepFrom, stepSize}
+use Rattle.expand.specs.Steps.{nextUnder}
 use Rattle.expand.proofs.Stepping.{stepsFrom, node-from}
 
 mutual

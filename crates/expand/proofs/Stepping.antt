@@ -5,13 +5,13 @@ use mathlib.Core.Path.{_≡_, refl, sym}
 use mathlib.Core.Bool.{true, false, true≢false}
 use mathlib.Core.List.{List, [], _∷_, _++_, append-assoc}
 use native.Mathlib.Nat.{add-assoc}
-use Rattle.meaning.specs.Record.{numberOf, full, Kind, constant, atom, modal, move, test, choice, sequence, star, shorthand, unknown, columnsOf}
-use Rattle.meaning.specs.Record.{denied, both, either, implies, end, beside, along, until, since}
-use Rattle.meaning.specs.Record.{diamond, box, ahead, back, argumentsOf, sortOf, known}
-use Rattle.meaning.specs.Shorthand.{expansion}
+use Rattle.meaning.specs.Record.{numberOf, full, Kind, constant, atom, modal, move, test, choice, sequence, star, shorthand, unknown}
+use Rattle.meaning.specs.Record.{columnsOf, denied, both, either, implies, end, beside, along, until, since, diamond, box, ahead, back}
+use Rattle.meaning.specs.Record.{argumentsOf, sortOf, known}
 use Rattle.meaning.specs.Tree.{Tree, asForm, asPath, nodeOf, formFrom, pathFrom, formSize, pathSize}
-use Rattle.expand.specs.Steps.{formSteps, pathSteps, stepsOf, treeFrom, treeSize, fieldFrom, fieldSize}
-use Rattle.expand.specs.Steps.{ownA, ownB, partOf, partUse, stepFrom, stepSize, nextUnder}
+use Rattle.meaning.specs.Shorthand.{expansion}
+use Rattle.expand.specs.Steps.{formSteps, pathSteps, stepsOf, treeFrom, treeSize, fieldFrom, fieldSize, ownA, ownB, partOf, partUse}
+use Rattle.expand.specs.Steps.{stepFrom, stepSize, nextUnder}
 
 -- The records of a list of steps.
 module _ (K : Kind) (a b : ℕ) (t : ℕ → Tree) where

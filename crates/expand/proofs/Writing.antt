@@ -1,24 +1,22 @@
 -- Writing a record's steps one after the other. Numbers of records stop at 256: with what the steps that are left write, the number so far
 -- stops where that of the record's tree does. Until then, what was written is put at the start's place, and what it lacks of the tree is
 -- what the steps that are left write: so each step takes its part from what is left to what was written, and at the end nothing is left.
-use Prim.Native.Nat.{ℕ, _+_, _*_, _/_, _%_, _<_, _≤_, min}
+use Prim.Native.Nat.{ℕ, _+_, _*_, _/_, _%_, _≤_, min}
 use mathlib.Core.Path.{_≡_, refl, sym, ap, _∙_}
-use mathlib.Core.Bool.{Bool, true, false, cond}
-use mathlib.Core.List.{List, [], _++_, append-assoc, append-nil}
-use native.Mathlib.Omega.{arith}
 use native.Mathlib.Nat.{le-refl}
+use native.Mathlib.Omega.{arith}
 use lib.Dec.{ltb}
 use lib.ListN.{length, length-append}
 use lib.Seq.{sets}
+use mathlib.Core.List.{append-nil, List, [], _++_, append-assoc}
 use Rattle.meaning.specs.Record.{kindAt, fieldA, fieldB, recordSize, mostRecords}
 use Rattle.meaning.specs.Tree.{treeAt}
 use Rattle.meaning.proofs.Stores.{sets-append}
+use Rattle.expand.specs.Expanding.{Expandable, bytesAt, sizeAt, stepBytes, stepCount, many, Wrote}
 use Rattle.expand.specs.Steps.{noChild, byte, rowNumber, nextUnder}
-use Rattle.expand.specs.Expanding.{Expandable, bytesAt, sizeAt, stepBytes, stepCount, fits, many, Wrote}
-use Rattle.expand.proofs.Stepping.{stepsFrom}
-use Rattle.expand.proofs.Sized.{step-length, stepsSize}
 use Rattle.expand.proofs.Row.{Rest, rest-all, rest-none, FirstStep, rest-read}
-use Rattle.expand.proofs.Parts.{rowBytes, rowCount, bytes-stepped, size-stepped}
+use Rattle.expand.proofs.Parts.{either, rowBytes, rowCount, bytes-stepped, size-stepped}
+use Rattle.expand.proofs.{Stepping.stepsFrom, Sized.step-length, Sized.stepsSize}
 
 -- `done` was written from number `from` on, and the steps that are left write the rest of the tree.
 pub record Written (s : List ℕ) (r from : ℕ) (old left : List ℕ) (under n : ℕ) (out : List ℕ) : Type 0 where
@@ -37,11 +35,7 @@ pub record Going (s : List ℕ) (r from : ℕ) (old : List ℕ) (rest under n : 
 
 under-below : (d under n : ℕ) → under ≤ n → nextUnder d under n ≤ n
 unfolding nextUnder
-under-below d under n h = go (ltb d noChild)
-  where
-    go : (c : Bool) → cond c under n ≤ n
-    go true = h
-    go false = le-refl n
+under-below d under n h = either (λ x. x ≤ n) (ltb d noChild) h (le-refl n)
 
 -- A sum that stops on the way stops where the whole sum does.
 stops : (n x y : ℕ) → min many (min many (n + x) + y) ≡ min many (n + (x + y))
@@ -71,29 +65,23 @@ module _ {s : List ℕ} {r from : ℕ} {old : List ℕ} where
         }
 
     module _ (more : rest ≡ 1 → ⊥) where
-      next : FirstStep (kindAt s r) rest (g .steps .left)
-      next = rest-read (g .steps) more
+      pub going-next : FirstStep (kindAt s r) rest (g .steps .left)
+      going-next = rest-read (g .steps) more
 
-      pub going-less : rest / byte < rest
-      going-less = next .less
-
-      pub going-fits : fits (kindAt s r) (rest % byte) ≡ true
-      going-fits = next .fit
-
-      sizes : rowCount s r (g .steps .left) ≡ stepCount s r (rest % byte) + rowCount s r (next .past .left)
+      sizes : rowCount s r (g .steps .left) ≡ stepCount s r (rest % byte) + rowCount s r (going-next .past .left)
       unfolding stepsSize
-      sizes = ap (rowCount s r) (next .all)
+      sizes = ap (rowCount s r) (going-next .all)
 
       bytes : rowBytes s r (g .steps .left) under n
           ≡ stepBytes s r (rest % byte) under n
-          ++ rowBytes s r (next .past .left) (nextUnder (rest % byte) under n) (n + stepCount s r (rest % byte))
+          ++ rowBytes s r (going-next .past .left) (nextUnder (rest % byte) under n) (n + stepCount s r (rest % byte))
       unfolding stepsFrom
-      bytes = ap (λ (ds : List ℕ). rowBytes s r ds under n) (next .all)
+      bytes = ap (λ (ds : List ℕ). rowBytes s r ds under n) (going-next .all)
 
       module _ {e u : ℕ} {new : List ℕ} (p : Wrote (stepBytes s r (rest % byte) under n) n (stepCount s r (rest % byte)) out e new)
           (h : u ≡ nextUnder (rest % byte) under n) where
         written-more : e ≤ mostRecords → e ≡ n + stepCount s r (rest % byte) → Written s r from old (g .steps .left) under n out
-            → Written s r from old (next .past .left) u e new
+            → Written s r from old (going-next .past .left) u e new
         written-more few exact v =
             let x = stepBytes s r (rest % byte) under n in
             let long = step-length (kindAt s r) (fieldA s r) (fieldB s r) (treeAt s) (rest % byte) under n in
@@ -106,7 +94,7 @@ module _ {s : List ℕ} {r from : ℕ} {old : List ℕ} where
 
         pub going-more : Going s r from old (rest / byte) u e new
         going-more = record {
-          steps = next .past;
+          steps = going-next .past;
           low = omega (arith, p .next);
           below = omega (arith, h, p .next, g .low, under-below (rest % byte) under n (g .below));
           counted = rw (p .next) (stops n _ _ ∙ rw (← sizes) (g .counted));

@@ -5,8 +5,7 @@ use mathlib.Core.Path.{refl, _∙_}
 use mathlib.Core.List.{List}
 use native.Mathlib.Nat.{min-comm}
 use lib.ListN.{replicate, getD-replicate}
-use Rattle.meaning.specs.Three.{greatest}
-use Rattle.meaning.specs.Value.{Square, sequenceSquare}
+use Rattle.meaning.specs.{Three.greatest, Value.Square, Value.sequenceSquare}
 use Rattle.meaning.proofs.Bounds.{greatest-more}
 use Rattle.rows.specs.Cells.{width, Values, Raised}
 

@@ -5,25 +5,19 @@ use Prim.Native.Nat.{ℕ, zero, suc, _+_, _*_, _≤_}
 use mathlib.Core.Path.{_≡_, refl, sym, _∙_}
 use mathlib.Core.List.{List, [], _∷_, _++_}
 use native.Mathlib.Omega.{arith}
-use borrow.Author.Tests.{eq-eqb, ne-eqb}
-use lib.ListN.{length, getD, drop, replicate, length-replicate}
 use lib.Seq.{getD-drop}
-use Rattle.meaning.specs.Run.{each, written}
-use Rattle.meaning.specs.Rule.{ruleSize, words}
-use Rattle.meaning.specs.Translation.{translation}
+use borrow.Author.Tests.{eq-eqb, ne-eqb}
+use lib.ListN.{length-replicate, length, getD, drop, replicate}
+use Rattle.meaning.specs.{Run.each, Run.written, Rule.ruleSize, Rule.words, Translation.translation}
 use Rattle.meaning.specs.Refusal.{firstOf, mostAtoms, mostRules, translateGrounds}
 use Rattle.meaning.specs.Service.{translateAnswer, translateAfter}
+use Rattle.records.proofs.Ranges.{again}
 use Rattle.translate.proofs.RoomGrounds.{accepted}
 use Rattle.listing.specs.Printed.{ascii, spelled, word, line, lineEnd, printed}
 
 -- ---- zeros
 abbrev zeros : ℕ → List ℕ
 zeros n = replicate n 0
-
-zeros-at : (n i : ℕ) → getD (zeros n) i 0 ≡ 0
-zeros-at zero i = refl
-zeros-at (suc n) zero = refl
-zeros-at (suc n) (suc i) = zeros-at n i
 
 same-each : {T : Type 0} (n : ℕ) (f g : ℕ → List T) → ((i : ℕ) → f i ≡ g i) → each n f ≡ each n g
 unfolding each
@@ -45,7 +39,7 @@ same-lines : (ws : List ℕ) (m n : ℕ) → each n (line (written ws (zeros m))
 unfolding written
 same-lines ws m n =
     same-each n (line (ws ++ drop (length ws) (zeros m))) (line ws)
-    (same-line _ (λ i. getD-drop (length ws) (zeros m) i 0 ∙ zeros-at m (length ws + i)) ws)
+    (same-line _ (λ i. getD-drop (length ws) (zeros m) i 0 ∙ again m (length ws + i) 0) ws)
 
 -- ---- the answer
 module _ (s : List ℕ) where

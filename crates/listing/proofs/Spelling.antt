@@ -1,11 +1,11 @@
 -- Numbers as text. The fewest digits of a number are one if it is below ten, and else those of its tens and one more;
 -- so they are the digits that the definition gives. A word has at most five.
-use Prim.Native.Nat.{ℕ, zero, suc, _+_, _-_, _/_, _%_, _^_, _<_, _≤_}
 use mathlib.Core.Path.{_≡_}
 use mathlib.Core.Logic.{inl, inr}
-use native.Mathlib.Nat.{le-refl, one-le-pow, pow-le-pow-right}
 use native.Mathlib.Omega.{arith}
 use borrow.Author.Tests.{lt-ltb, le-ltb}
+use Prim.Native.Nat.{_^_, ℕ, zero, suc, _+_, _-_, _/_, _%_, _<_, _≤_}
+use native.Mathlib.Nat.{one-le-pow, pow-le-pow-right, le-refl}
 use Rattle.io.specs.Digits.{glyph, digits, Fewest}
 use Rattle.meaning.proofs.Bounds.{le-or-lt}
 use Rattle.listing.specs.Printed.{decimalIn, decimal}

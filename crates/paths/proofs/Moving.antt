@@ -3,25 +3,21 @@
 use Prim.Native.Nat.{ℕ, _+_, _<_, _≤_}
 use mathlib.Core.Path.{_≡_, refl, sym, ap, _∙_}
 use mathlib.Core.Bool.{Bool, true, false, cond, _&&_, _||_}
+use mathlib.Core.Logic.{inl, inr, _≢_}
 use mathlib.Core.List.{List, [], _∷_}
-use mathlib.Core.Logic.{_≢_, inl, inr}
 use native.Mathlib.Omega.{arith}
+use lib.Dec.{eqb}
+use lib.ListN.{getD, set, replicate, length-set}
+use lib.Seq.{getD-set-same, getD-set-other}
 use borrow.Author.Count.{below-more}
 use lib.Bits.{bitOr, or-zero-l, or-block}
-use lib.Dec.{eqb}
-use lib.ListN.{getD, set, length-set, replicate}
-use lib.Seq.{getD-set-same, getD-set-other}
-use Rattle.meaning.specs.Record.{core, mostRecords, kinds, kindOf, kindAt, kindByte, count}
-use Rattle.meaning.specs.Record.{fieldA, fieldB, path, sortOf, Use, unused, atomNumber, child, useA, useB, columnsOf}
-use Rattle.meaning.specs.Formula.{mayStand, goes, sameWay}
-use Rattle.meaning.specs.Tree.{asPath, nodeOf, treeAt, pathAt}
+use Rattle.meaning.specs.Record.{core, mostRecords, kinds, kindOf, kindAt, kindByte, count, fieldA, fieldB, path, sortOf, Use, unused}
+use Rattle.meaning.specs.Record.{atomNumber, child, useA, useB, columnsOf}
 use Rattle.meaning.specs.Refusal.{ofFirst, Ground, firstOf, isStar, ground11, ground12}
-use Rattle.meaning.specs.WellFormed.{WellFormed, Fits}
-use Rattle.meaning.proofs.Bounds.{le-or-lt}
-use Rattle.meaning.proofs.First.{Clear, none-clear}
-use Rattle.meaning.proofs.Nodes.{path-node, either-sort}
-use Rattle.records.proofs.Ranges.{stretch, onward}
-use Rattle.records.proofs.Numbers.{either-of, formula-number, path-number}
+use Rattle.meaning.specs.{Formula.mayStand, Formula.goes, Formula.sameWay, WellFormed.WellFormed, WellFormed.Fits}
+use Rattle.meaning.specs.Tree.{asPath, nodeOf, treeAt, pathAt}
+use Rattle.meaning.proofs.{Bounds.le-or-lt, First.Clear, First.none-clear, Nodes.path-node, Nodes.either-sort}
+use Rattle.records.proofs.{Ranges.stretch, Ranges.onward, Numbers.either-of, Numbers.formula-number, Numbers.path-number}
 use Rattle.paths.specs.Asking.{bit, bits, movesOf, MovesAt, Known, Scanned}
 
 -- ---- bits

@@ -2,3 +2,4 @@
 pub mod Ranges
 pub mod Numbers
 pub mod Held
+pub mod Storing

@@ -1,38 +1,31 @@
 -- The kinds of the numbers 0 to 10: the code asks for a number, the definitions for a kind. Records that passed the
 -- check have these numbers alone, 0 to 4 where they are formulas and 5 to 10 where they are paths.
-use Prim.Native.Nat.{ℕ, zero, suc, _+_, _<_, _≤_}
+use Prim.Native.Nat.{ℕ, _+_, _<_, _≤_}
 use mathlib.Core.Path.{_≡_, refl, sym, _∙_}
 use mathlib.Core.Bool.{true, cond, true≢false}
-use mathlib.Core.List.{List}
 use mathlib.Core.Logic.{_⊎_, inl, inr}
+use mathlib.Core.List.{List}
 use native.Mathlib.Omega.{arith}
 use lib.Dec.{eqb}
 use Rattle.meaning.specs.Record.{core, constant, atom, modal, move, test, choice, sequence, star, kinds, kindOf, kindAt, columnsOf}
 use Rattle.meaning.specs.Record.{kindByte, count, known, formula, path, sortOf}
 use Rattle.meaning.specs.WellFormed.{WellFormed}
-use Rattle.meaning.proofs.Bounds.{le-or-lt}
-use Rattle.meaning.proofs.Nodes.{differs}
+use Rattle.meaning.proofs.{Bounds.le-or-lt, Nodes.differs}
 use Rattle.records.specs.Code.{wayOf, modeOf}
 use Rattle.records.proofs.Ranges.{stretch, onward}
 
 -- ---- a number's kind
+-- Two numbers, a and the next.
+pub either-of : (a n : ℕ) → a ≤ n → n < a + 2 → (n ≡ a) ⊎ (n ≡ a + 1)
+either-of a n h l = elim (le-or-lt n a) [ inl q ↦ inl (omega arith) | inr q ↦ inr (omega arith) ]
+
 pub constant-kind : (n : ℕ) → n < 2 → kindOf n ≡ constant (eqb n 1)
 unfolding kindOf kinds
-constant-kind zero h = refl
-constant-kind (suc zero) h = refl
-constant-kind (suc (suc n)) h = absurd (omega arith)
+constant-kind n h = elim (either-of 0 n (omega arith) h) [ inl e ↦ rw e | inr e ↦ rw e ]
 
 pub atom-kind : kindOf 2 ≡ atom
 unfolding kindOf kinds
 atom-kind = refl
-
--- Two numbers, a and the next.
-pub either-of : (a n : ℕ) → a ≤ n → n < a + 2 → (n ≡ a) ⊎ (n ≡ a + 1)
-either-of a n h l = go (le-or-lt n a)
-  where
-    go : (n ≤ a) ⊎ (a < n) → (n ≡ a) ⊎ (n ≡ a + 1)
-    go (inl q) = inl (omega arith)
-    go (inr q) = inr (omega arith)
 
 pub modal-kind : (n : ℕ) → 3 ≤ n → n < 5 → kindOf n ≡ modal (modeOf n)
 unfolding kindOf kinds modeOf

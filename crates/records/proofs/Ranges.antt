@@ -3,13 +3,15 @@
 -- code's table, or one value again and again. After the list the function has its value at `unknown`.
 use Prim.Native.Nat.{ℕ, zero, suc, _+_, _-_, _<_, _≤_}
 use mathlib.Core.Path.{_≡_, refl, sym, _∙_}
-use mathlib.Core.List.{List, map}
 use native.Mathlib.Omega.{arith}
-use lib.ListN.{getD, take, drop, replicate, getD-replicate, List·getD-map}
-use lib.Seq.{getD-take, getD-drop}
+use lib.ListN.{getD, take, drop, replicate, getD-replicate}
+use lib.Seq.{getD-drop}
+use mathlib.Core.List.{map, List}
+use lib.{ListN.List·getD-map, Seq.getD-take}
 use Rattle.meaning.specs.Record.{Kind, unknown, kinds, kindOf}
 
-again : {B : Type 0} (n i : ℕ) (b : B) → getD (replicate n b) i b ≡ b
+-- A list of one value has it everywhere, if that counts after the list too.
+pub again : {B : Type 0} (n i : ℕ) (b : B) → getD (replicate n b) i b ≡ b
 again zero i b = refl
 again (suc n) zero b = refl
 again (suc n) (suc i) b = again n i b

@@ -5,9 +5,9 @@ use mathlib.Core.Path.{_≡_, refl, _∙_}
 use mathlib.Core.Bool.{Bool, true, false, cond}
 use mathlib.Core.List.{List}
 use native.Mathlib.Omega.{arith}
-use borrow.Author.Tests.{eqb-true, eqb-false}
 use lib.Dec.{eqb}
 use lib.ListN.{length, getD, replicate, getD-replicate}
+use borrow.Author.Tests.{eqb-true, eqb-false}
 use Rattle.rows.specs.Cells.{width, area, at, Holds}
 use Rattle.rows.proofs.Stored.{Stored}
 

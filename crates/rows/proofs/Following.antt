@@ -4,8 +4,8 @@ use Prim.Native.Nat.{ℕ, _+_, _<_, _≤_}
 use mathlib.Core.Path.{_≡_, refl, _∙_}
 use mathlib.Core.List.{List}
 use native.Mathlib.Omega.{arith}
-use borrow.Author.Count.{below-more}
 use lib.ListN.{length}
+use borrow.Author.Count.{below-more}
 use Rattle.meaning.specs.Value.{Square}
 use Rattle.rows.specs.Cells.{width, area, at, Holds, Rowed}
 

@@ -2,10 +2,8 @@
 -- and a diamond are the greatest of values there, and a box the least, so it is enough that these values agree.
 use Prim.Native.Nat.{ℕ, zero, suc, _<_, min}
 use mathlib.Core.Path.{_≡_, refl, ap₂, _∙_}
-use Rattle.meaning.specs.Three.{imp}
-use Rattle.meaning.specs.Record.{Mode, diamond, box}
-use Rattle.meaning.specs.Value.{Row, Square, diamondRow, boxRow, modalRow}
-use Rattle.meaning.specs.Value.{sequenceSquare, passes, starSquare}
+use Rattle.meaning.specs.Value.{Row, Square, diamondRow, boxRow, modalRow, sequenceSquare, passes, starSquare}
+use Rattle.meaning.specs.{Three.imp, Record.Mode, Record.diamond, Record.box}
 use Rattle.meaning.proofs.Bounds.{greatest-same, least-same}
 use Rattle.rows.specs.Cells.{Holds}
 

@@ -4,8 +4,7 @@ use mathlib.Core.Path.{_≡_, refl}
 use mathlib.Core.List.{List}
 use native.Mathlib.Omega.{arith}
 use lib.ListN.{replicate}
-use Rattle.meaning.specs.Record.{Way, ahead, back}
-use Rattle.meaning.specs.Value.{moveSquare, testSquare}
+use Rattle.meaning.specs.{Record.Way, Record.ahead, Record.back, Value.moveSquare, Value.testSquare}
 use Rattle.rows.specs.Cells.{width, area, Holds}
 use Rattle.rows.proofs.Diagonal.{Diagonal, diagonal-holds, diagonal-self, zeros-at}
 use Rattle.squares.specs.Places.{nextCell}

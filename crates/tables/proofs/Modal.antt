@@ -4,12 +4,9 @@ use mathlib.Core.Path.{_≡_, refl, _∙_}
 use mathlib.Core.List.{List}
 use native.Mathlib.Omega.{arith}
 use lib.ListN.{length, set}
-use Rattle.meaning.specs.Record.{Mode}
-use Rattle.meaning.specs.Value.{Square, modalRow}
+use Rattle.meaning.specs.{Record.Mode, Value.Square, Value.modalRow}
 use Rattle.rows.specs.Cells.{rowAt}
-use Rattle.rows.proofs.ByCell.{Along}
-use Rattle.rows.proofs.Same.{modal-same}
-use Rattle.rows.proofs.Stored.{stored-more}
+use Rattle.rows.proofs.{ByCell.Along, Same.modal-same, Stored.stored-more}
 
 pub along-modal : {n v : ℕ} {old t : List ℕ} (m : Mode) (L from start : ℕ) (p : Square)
     → Along start (modalRow m L p (rowAt old from)) old t n → start + n < length old → from + L ≤ start

@@ -1,18 +1,13 @@
 -- The ninth ground by the greatest cell: where that is at most 2 no cell is over 2, and where it is over 2 some cell is.
 use Prim.Native.Nat.{ℕ, zero, suc, _≤_, _<_}
-use mathlib.Core.Path.{_≡_, sym, _∙_}
-use mathlib.Core.List.{List, [], _∷_}
-use mathlib.Core.Logic.{⊎-elim}
-use native.Mathlib.Nat.{le-refl, le-trans}
-use native.Mathlib.Omega.{arith}
+use mathlib.Core.{Path._≡_, Path.sym, Path._∙_, List.List, List.[], List._∷_, Logic.inl, Logic.inr}
+use native.Mathlib.{Nat.le-refl, Nat.le-trans, Omega.arith}
 use borrow.Author.Tests.{lt-ltb, le-ltb}
-use lib.Dec.{ltb}
-use lib.ListN.{length, getD}
-use Rattle.meaning.specs.Run.{each}
-use Rattle.meaning.specs.Three.{greatest}
+use lib.{Dec.ltb, ListN.length, ListN.getD}
 use Rattle.meaning.specs.Refusal.{ofFirst, Ground, ground, firstOf, grounds9}
-use Rattle.meaning.proofs.Bounds.{le-or-lt, greatest-member}
+use Rattle.meaning.specs.{Run.each, Three.greatest}
 use Rattle.meaning.proofs.First.{Clear, each-clear, clear-none, scan-found, found-stop}
+use Rattle.meaning.proofs.Bounds.{le-or-lt, greatest-member}
 
 abbrev pub cell-of : List ℕ → ℕ → ℕ
 cell-of cells i = getD cells i 0
@@ -27,15 +22,10 @@ module _ (f : ℕ → ℕ) where
   nine-high : (n : ℕ) → 2 < greatest n f → 9 ≡ firstOf (each n over)
   unfolding greatest each ofFirst
   nine-high zero h = absurd (omega arith)
-  nine-high (suc n) h =
-      ⊎-elim
-      (λ (l : greatest n f ≤ 2).
-      let e = lt-ltb 2 (f n) (omega arith) in
-      scan-found over (suc n) n (le-refl _) (clear-low n l) (rw e) (λ z. omega arith))
-      (λ (l : 2 < greatest n f).
-      let e = nine-high n l in
-      e ∙ sym (found-stop (each n over) (over n) (λ z. omega arith)))
-      (le-or-lt (greatest n f) 2)
+  nine-high (suc n) h = elim (le-or-lt (greatest n f) 2) [
+    | inl l ↦ scan-found over (suc n) n (le-refl _) (clear-low n l) (rw (lt-ltb 2 (f n) (omega arith))) (λ z. omega arith)
+    | inr l ↦ let e = nine-high n l in e ∙ sym (found-stop (each n over) (over n) (λ z. omega arith))
+  ]
 
 module _ (cells : List ℕ) {m : ℕ} (e : m ≡ greatest (length cells) (cell-of cells)) where
   pub refused-high : 2 < m → 9 ≡ firstOf (grounds9 cells)

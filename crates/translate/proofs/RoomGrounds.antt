@@ -4,15 +4,12 @@ use Prim.Native.Nat.{ℕ, _*_, _<_, _≤_}
 use mathlib.Core.Path.{_≡_, sym, _∙_}
 use mathlib.Core.List.{List, [], _∷_}
 use native.Mathlib.Omega.{arith}
-use borrow.Author.Tests.{lt-ltb, le-ltb, ltb-false}
 use lib.ListN.{length}
-use Rattle.meaning.specs.Rule.{ruleSize}
-use Rattle.meaning.specs.Translation.{translation}
+use borrow.Author.Tests.{ltb-false, lt-ltb, le-ltb}
 use Rattle.meaning.specs.Refusal.{ofFirst, Ground, firstOf, ground10, starredGrounds, translateGrounds}
-use Rattle.meaning.specs.WellFormed.{WellFormed}
-use Rattle.meaning.specs.Record.{core}
-use Rattle.meaning.proofs.Accepted.{starred-numbered, starred-formed, starred-clear}
+use Rattle.meaning.specs.{Rule.ruleSize, Translation.translation, WellFormed.WellFormed, Record.core}
 use Rattle.meaning.proofs.First.{clear-none, none-clear, clear-append, numbered-append, clear-skip, found-stop}
+use Rattle.meaning.proofs.Accepted.{starred-numbered, starred-formed, starred-clear}
 
 module _ (s : List ℕ) (A room : ℕ) where
   abbrev last : List Ground

@@ -7,8 +7,7 @@ use native.Mathlib.Omega.{arith}
 use lib.ListN.{length, set, length-append}
 use lib.Seq.{length-sets}
 use Rattle.meaning.specs.Run.{each, written}
-use Rattle.meaning.proofs.Runs.{each-more}
-use Rattle.meaning.proofs.Stores.{sets-append, sets-written}
+use Rattle.meaning.proofs.{Runs.each-more, Stores.sets-append, Stores.sets-written}
 use Rattle.writing.specs.Appended.{Appended}
 
 -- One member.

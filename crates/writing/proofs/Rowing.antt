@@ -3,25 +3,19 @@
 use Prim.Native.Nat.{ℕ, zero, suc, pred, _+_, _*_, _/_, _%_, _<_, _≤_}
 use mathlib.Core.Path.{_≡_, refl, sym, ap, _∙_}
 use mathlib.Core.Bool.{true}
-use mathlib.Core.List.{List, [], _∷_, _++_}
 use mathlib.Core.Logic.{inl, inr}
+use mathlib.Core.List.{List, [], _∷_, _++_}
 use native.Mathlib.Nat.{le-refl}
 use native.Mathlib.Omega.{arith}
+use lib.ListN.{length, getD, length-append}
 use borrow.Author.Tests.{leb-true}
 use lib.Dec.{leb}
-use lib.ListN.{length, getD, length-append}
-use Rattle.meaning.specs.Run.{each, written}
-use Rattle.meaning.specs.Record.{core, Kind, constant, atom, modal, move, test, choice, sequence, star, shorthand, unknown, columnsOf}
-use Rattle.meaning.specs.Record.{Mode, diamond, box, formula, path, sortOf, mostRecords, count, kinds, kindOf, kindAt, fieldA, fieldB}
-use Rattle.meaning.specs.Rule.{Rule, rule, ruleSize, words}
-use Rattle.meaning.specs.Record.{numberOf, modal}
+use Rattle.meaning.specs.Record.{core, Kind, constant, atom, modal, move, test, choice, sequence, star, shorthand, unknown, columnsOf, Mode}
+use Rattle.meaning.specs.Record.{diamond, box, formula, path, sortOf, mostRecords, count, kinds, kindOf, kindAt, fieldA, fieldB, numberOf}
 use Rattle.meaning.specs.Translation.{label, context, rulesOf, rulesAt, asserted, translation, ruleNumber}
-use Rattle.meaning.specs.WellFormed.{WellFormed}
-use Rattle.meaning.proofs.Bounds.{le-or-lt}
-use Rattle.meaning.proofs.Climbing.{path-before, continuation-record}
-use Rattle.meaning.proofs.Nodes.{either-sort, differs}
-use Rattle.meaning.proofs.RuleCount.{rules-counted, words-length}
-use Rattle.meaning.proofs.Runs.{each-more, getD-tabulate}
+use Rattle.meaning.specs.{Run.each, Run.written, Rule.Rule, Rule.rule, Rule.ruleSize, Rule.words, WellFormed.WellFormed}
+use Rattle.meaning.proofs.{Bounds.le-or-lt, Climbing.path-before, Climbing.continuation-record, Nodes.either-sort, Nodes.differs}
+use Rattle.meaning.proofs.{RuleCount.record-few, RuleCount.rules-counted, RuleCount.words-length, Runs.each-more, Runs.getD-tabulate}
 use Rattle.records.specs.Code.{modeOf}
 use Rattle.records.proofs.Ranges.{stretch}
 use Rattle.contexts.specs.Contexts.{packed, entryBy, contextsOf}
@@ -102,9 +96,10 @@ rows-words (ρ ∷ σ ∷ τ ∷ υ ∷ []) h = refl
 rows-words (ρ ∷ σ ∷ τ ∷ υ ∷ φ ∷ ρs) h = absurd (omega arith)
 
 -- So putting as many rows as there are rules puts the rules.
-pub rules-appended : (ρs : List Rule) {rows : List (List ℕ)} {n : ℕ} {old new : List ℕ} {at e : ℕ} → rows ≡ rowsOf ρs
-    → n ≡ length ρs → length ρs ≤ 4 → Appended old at (wordsIn rows n) e new → Appended old at (words ρs) e new
-rules-appended ρs rows n few p = rw (rows, n, rows-words ρs few) at p
+pub rules-appended : (s : List ℕ) (A r : ℕ) {rows : List (List ℕ)} {n : ℕ} → rows ≡ rowsOf (rulesAt s A r)
+    → n ≡ ruleNumber (kindAt s r) (context s r .mode) → {old new : List ℕ} {at e : ℕ} → Appended old at (wordsIn rows n) e new
+    → Appended old at (words (rulesAt s A r)) e new
+rules-appended s A r rows n p = rw (rows, n, ← record-counted s A r, rows-words (rulesAt s A r) (record-few s A r)) at p
 
 -- ---- all records
 words-append : (ρs σs : List Rule) → words (ρs ++ σs) ≡ words ρs ++ words σs
@@ -150,15 +145,15 @@ module _ (s : List ℕ) (A : ℕ) where
         let one = rw (each-more (wordsAt s A) r, length-append) at grown in
         omega (arith, total, append-length p, p .place, words-length (rulesAt s A r))
 
-    module _ (p : Appended old 0 (each (count s) (wordsAt s A)) at mid) where
+    module _ {r : ℕ} (end : r ≡ count s) (p : Appended old 0 (each r (wordsAt s A)) at mid) where
       -- and for the last rule.
       pub room-last : at + ruleSize ≤ length mid
-      room-last = omega (arith, total, append-length p, p .place)
+      room-last = let p = rw end at p in omega (arith, total, append-length p, p .place)
 
       -- With it, all are written.
       pub all-written : {new : List ℕ} {e x : ℕ} → x ≡ label A (pred (count s)) → Appended mid at (words (rule 1 [] (x ∷ []) ∷ [])) e new
           → (e / ruleSize ≡ length (translation s A)) × (new ≡ written (words (translation s A)) old)
       all-written x q =
-          let whole = rw (← translation-words) at (append-more p (rw x at q)) in
+          let whole = rw (← translation-words) at (append-more (rw end at p) (rw x at q)) in
           let (e, n) = append-written whole (omega (arith, whole .place, words-length (translation s A))) in
           (omega (arith, words-length (translation s A)), n)

@@ -3,10 +3,10 @@ use Prim.Native.Nat.{_-_, _≤_}
 use mathlib.Core.Path.{_≡_}
 use native.Mathlib.Omega.{arith}
 use lib.ListN.{length}
+use borrow.Author.Needs.{needs}
 use Rattle.meaning.specs.Value.{Square}
 use Rattle.rows.specs.Cells.{area, at}
 use Rattle.closing.proofs.Closure.{Closing, closing-none, closing-more, closing-done, closing-same}
-use borrow.Author.Needs.{needs}
 use Rattle.closing.proofs.close.Statement.{statement}
 use Rattle.closing.proofs.close.Tie as tie
 
@@ -17,18 +17,6 @@ Inv-loop s₀ l mid₀ s mid =
 abbrev μ-loop : tie.MeasureT-loop
 μ-loop s₀ l mid₀ s mid = l - mid
 
-loop-holds : tie.Need-loop-holds Inv-loop μ-loop
-loop-holds c = (search needs, c .stand .ensures .size, λ p w. w)
-
-loop-again : tie.Need-loop-again Inv-loop μ-loop
-loop-again c = (
-  omega arith,
-  c .pass .ensures .size,
-  λ p w.
-      closing-same (omega arith) (closing-more (omega arith) (c .before .before .before .loop .inv .2 p w))
-      (λ k j h l. c .pass .ensures .passed k j (omega arith) h (omega arith)),
-)
-
 returns : tie.Need-returns Inv-loop μ-loop
 returns c =
     let b = c .before .before .before .before .pre .2 in
@@ -36,7 +24,14 @@ returns c =
     record { size = c .before .loop .inv .1; cells = closing-done (c .before .loop .inv .2 _ w) (omega arith) }
 
 pub close-spec : {M : Type 1} → statement M
-close-spec =
-    tie.close
-    (tie.spec Inv-loop μ-loop (λ c κs. search needs) loop-holds (λ c κs. search needs) (λ c. search needs)
-    (λ c. search needs) loop-again returns)
+close-spec = tie.close (tie.spec
+    Inv-loop μ-loop (λ c κs. search needs) (λ c. (search needs, c .stand .ensures .size, λ p w. w))
+    (λ c κs. search needs) (λ c. search needs) (λ c. search needs)
+    (λ c. (
+      omega arith,
+      c .pass .ensures .size,
+      λ p w.
+          closing-same (omega arith) (closing-more (omega arith) (c .before .before .before .loop .inv .2 p w))
+          (λ k j h l. c .pass .ensures .passed k j (omega arith) h (omega arith)),
+    ))
+    returns)

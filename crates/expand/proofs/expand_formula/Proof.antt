@@ -1,14 +1,13 @@
 -- `expand_formula` meets its contract: the buffer begins with the whole tree, if that has at most 255 records, and is copied to the
 -- output's start.
-use Prim.Native.Nat.{pred, _*_, _-_}
+use Prim.Native.Nat.{pred, _-_, _*_}
 use mathlib.Core.Path.{_≡_, refl}
 use native.Mathlib.Omega.{arith}
-use borrow.Author.Needs.{needs}
 use lib.ListN.{replicate}
+use borrow.Author.Needs.{needs}
 use Rattle.meaning.specs.Record.{count, recordSize, mostRecords}
 use Rattle.expand.specs.Expanding.{bytesAt, sizeAt, Wrote}
-use Rattle.expand.proofs.SizeGrounds.{size-refused, size-fitting, copied}
-use Rattle.expand.proofs.expand_formula.Statement.{statement}
+use Rattle.expand.proofs.{SizeGrounds.size-refused, SizeGrounds.size-fitting, SizeGrounds.copied, expand_formula.Statement.statement}
 use Rattle.expand.proofs.expand_formula.Tie as tie
 
 abbrev start : tie.After-record-count → tie.Start
@@ -23,30 +22,17 @@ wrote : (c : tie.After-write-tree)
     Wrote (bytesAt s r 0) 0 (sizeAt s r) (replicate (recordSize * mostRecords) 0) (c .write-tree .result) (c .write-tree .last .1 .1 .0)
 wrote c = rw (last (c .before .before)) at (c .write-tree .ensures)
 
-returns : tie.Need-returns
-returns c =
-    let call = c .before .before in
-    size-refused (start (call .before .before) .pre) refl (wrote call) _ (c .before .size-refusal .ensures) (c .if1 .taken)
-
-copy-requires : tie.Need-copy-requires
-copy-requires c κs =
-    let one = c .before .before in
-    let call = one .before .before in
-    let s = start (call .before .before) in
-    size-fitting (s .pre) refl (wrote call) (s .args .out .now) (one .before .size-refusal .ensures) (one .if1 .left)
-
-returns-2 : tie.Need-returns-2
-returns-2 c =
-    let copy = c .before .before in
-    let one = copy .before .before .before in
-    let call = one .before .before in
-    copied (start (call .before .before) .pre) refl (wrote call) _ (one .before .size-refusal .ensures) (one .if1 .left)
-    (copy .copy .ensures)
-
 pub expand-formula-spec : {M : Type 1} → statement M
-expand-formula-spec =
-    tie.close
-    (tie.spec
-    (λ c κs. search needs) (λ c. search needs)
-    (λ c κs. rw (last (c .before)) (start (c .before) .pre, omega arith))
-    (λ c κs. search needs) returns (λ c. search needs) copy-requires (λ c. search needs) returns-2)
+expand-formula-spec = tie.close (tie.spec
+    (λ c κs. search needs) (λ c. search needs) (λ c κs. rw (last (c .before)) (start (c .before) .pre, omega arith))
+    (λ c κs. search needs)
+    (λ c. let call = c .before .before in
+    size-refused (start (call .before .before) .pre) refl (wrote call) _ (c .before .size-refusal .ensures) (c .if1 .taken))
+    (λ c. search needs)
+    (λ c κs. let one = c .before .before in let call = one .before .before in
+    let s = start (call .before .before) in
+    size-fitting (s .pre) refl (wrote call) (s .args .out .now) (one .before .size-refusal .ensures) (one .if1 .left))
+    (λ c. search needs)
+    (λ c. let copy = c .before .before in let one = copy .before .before .before in let call = one .before .before in
+    copied (start (call .before .before) .pre) refl (wrote call) _ (one .before .size-refusal .ensures) (one .if1 .left)
+    (copy .copy .ensures)))

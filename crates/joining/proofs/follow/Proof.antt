@@ -3,11 +3,11 @@ use Prim.Native.Nat.{_-_}
 use mathlib.Core.Path.{refl, _∙_}
 use native.Mathlib.Nat.{le-refl}
 use native.Mathlib.Omega.{arith}
+use borrow.Author.Needs.{needs}
 use Rattle.meaning.specs.Value.{sequenceSquare}
 use Rattle.rows.specs.Cells.{at}
 use Rattle.rows.proofs.Same.{sequence-same}
 use Rattle.rows.proofs.Following.{Following, following-none, following-more, following-done}
-use borrow.Author.Needs.{needs}
 use Rattle.joining.proofs.follow.Statement.{statement}
 use Rattle.joining.proofs.follow.Tie as tie
 
@@ -17,25 +17,15 @@ Inv-loop s₀ q l k₀ s k = Following l (sequenceSquare l (at s₀) (at q)) s�
 abbrev μ-loop : tie.MeasureT-loop
 μ-loop s₀ q l k₀ s k = l - k
 
-loop-holds : tie.Need-loop-holds Inv-loop μ-loop
-loop-holds c = following-none (c .pre .1)
-
-loop-again : tie.Need-loop-again Inv-loop μ-loop
-loop-again c =
-    let led = c .before .before .before in
-    let turn = led .before .before .before in
-    let a = turn .before .args in
+pub follow-spec : {M : Type 1} → statement M
+follow-spec = tie.close (tie.spec
+    Inv-loop μ-loop
+    (λ c. following-none (c .pre .1)) (λ c κs. search needs) (λ c κs. search needs) (λ c. search needs)
+    (λ c. search needs)
+    (λ c. let led = c .before .before .before in let turn = led .before .before .before in let a = turn .before .args in
     let k = turn .loop .k in
     following-more (turn .before .pre .0) (turn .loop .inv) (c .put-row .ensures) (λ j h.
     led .led-row .ensures .cells j (omega arith)
     ∙ sequence-same (a .l) (at (turn .loop .s)) (at (a .s .now)) (at (a .q .now)) (at (a .q .now)) k j
-    (λ i m. turn .loop .inv .ahead k (le-refl k) i (omega arith)) (λ i m. refl))
-
-returns : tie.Need-returns Inv-loop μ-loop
-returns c = following-done (c .before .loop .inv) (omega arith)
-
-pub follow-spec : {M : Type 1} → statement M
-follow-spec =
-    tie.close
-    (tie.spec Inv-loop μ-loop loop-holds (λ c κs. search needs) (λ c κs. search needs) (λ c. search needs)
-    (λ c. search needs) loop-again returns)
+    (λ i m. turn .loop .inv .ahead k (le-refl k) i (omega arith)) (λ i m. refl)))
+    (λ c. following-done (c .before .loop .inv) (omega arith)))

@@ -2,13 +2,12 @@
 use Prim.Native.Nat.{_-_}
 use mathlib.Core.Path.{_∙_}
 use native.Mathlib.Omega.{arith}
+use borrow.Author.Needs.{needs}
 use Rattle.meaning.specs.Value.{moveSquare, sequenceSquare}
 use Rattle.records.specs.Code.{wayOf}
 use Rattle.rows.specs.Cells.{at}
 use Rattle.rows.proofs.Following.{Following, following-none, following-more, following-done}
-use Rattle.joining.proofs.Shifting.{led-by-move}
-use borrow.Author.Needs.{needs}
-use Rattle.joining.proofs.lead_move.Statement.{statement}
+use Rattle.joining.proofs.{Shifting.led-by-move, lead_move.Statement.statement}
 use Rattle.joining.proofs.lead_move.Tie as tie
 
 abbrev Inv-loop : tie.InvT-loop
@@ -17,24 +16,13 @@ Inv-loop kind s₀ q l k₀ s k = Following l (sequenceSquare l (moveSquare (way
 abbrev μ-loop : tie.MeasureT-loop
 μ-loop kind s₀ q l k₀ s k = l - k
 
-loop-holds : tie.Need-loop-holds Inv-loop μ-loop
-loop-holds c = following-none (c .pre .1)
-
-loop-again : tie.Need-loop-again Inv-loop μ-loop
-loop-again c =
-    let row = c .before .before .before in
-    let turn = row .before .before .before in
-    let a = turn .before .args in
+pub lead-move-spec : {M : Type 1} → statement M
+lead-move-spec = tie.close (tie.spec
+    Inv-loop μ-loop (λ c. following-none (c .pre .1)) (λ c κs. search needs) (λ c κs. search needs)
+    (λ c κs. search needs) (λ c. search needs) (λ c. search needs)
+    (λ c. let row = c .before .before .before in let turn = row .before .before .before in let a = turn .before .args in
     let pre = turn .before .pre in
     following-more (pre .0) (turn .loop .inv) (c .put-row .ensures) (λ j h.
     row .row-below .ensures .cells j (omega arith)
-    ∙ rw (row .before .beside .ensures) (led-by-move (wayOf (a .kind)) (a .l) (at (a .q .now)) (turn .loop .k) j (λ i l. pre .2 i j l h)))
-
-returns : tie.Need-returns Inv-loop μ-loop
-returns c = following-done (c .before .loop .inv) (omega arith)
-
-pub lead-move-spec : {M : Type 1} → statement M
-lead-move-spec =
-    tie.close
-    (tie.spec Inv-loop μ-loop loop-holds (λ c κs. search needs) (λ c κs. search needs) (λ c κs. search needs)
-    (λ c. search needs) (λ c. search needs) loop-again returns)
+    ∙ rw (row .before .beside .ensures) (led-by-move (wayOf (a .kind)) (a .l) (at (a .q .now)) (turn .loop .k) j (λ i l. pre .2 i j l h))))
+    (λ c. following-done (c .before .loop .inv) (omega arith)))

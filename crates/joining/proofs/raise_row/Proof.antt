@@ -4,13 +4,9 @@ use borrow.Author.Needs.{needs}
 use Rattle.joining.proofs.raise_row.Statement.{statement}
 use Rattle.joining.proofs.raise_row.Tie as tie
 
-returns : tie.Need-returns
-returns c =
-    let by = c .before .before .before .row-of .ensures in
-    record { size = c .raise .ensures .size; cells = λ j h. omega (arith, c .raise .ensures .cells j h, by .cells j h) }
-
-returns-2 : tie.Need-returns-2
-returns-2 c = record { size = c .before .pre .1; cells = λ j h. omega arith }
-
 pub raise-row-spec : {M : Type 1} → statement M
-raise-row-spec = tie.close (tie.spec (λ c κs. search needs) (λ c κs. search needs) returns returns-2)
+raise-row-spec = tie.close (tie.spec
+    (λ c κs. search needs) (λ c κs. search needs)
+    (λ c. let by = c .before .before .before .row-of .ensures in
+    record { size = c .raise .ensures .size; cells = λ j h. omega (arith, c .raise .ensures .cells j h, by .cells j h) })
+    (λ c. record { size = c .before .pre .1; cells = λ j h. omega arith }))

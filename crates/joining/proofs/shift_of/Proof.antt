@@ -5,13 +5,6 @@ use Rattle.joining.specs.Joining.{shiftOf}
 use Rattle.joining.proofs.shift_of.Statement.{statement}
 use Rattle.joining.proofs.shift_of.Tie as tie
 
-returns : tie.Need-returns
-unfolding shiftOf wayOf
-returns c = rw (eq-eqb _ _ (c .match .keys1))
-
-returns-2 : tie.Need-returns-2
-unfolding shiftOf wayOf
-returns-2 c = rw (ne-eqb _ _ (c .match .rest .1))
-
 pub shift-of-spec : {M : Type 1} → statement M
-shift-of-spec = tie.close (tie.spec returns returns-2)
+unfolding shiftOf wayOf
+shift-of-spec = tie.close (tie.spec (λ c. rw (eq-eqb _ _ (c .match .keys1))) (λ c. rw (ne-eqb _ _ (c .match .rest .1))))

@@ -1,5 +1,5 @@
 -- `put_rules` meets its contract: after i rules their lines stand at the start.
-use Prim.Native.Nat.{_*_, _-_, _≤_}
+use Prim.Native.Nat.{_-_, _*_, _≤_}
 use mathlib.Core.Path.{_≡_}
 use native.Mathlib.Omega.{arith}
 use borrow.Author.Needs.{needs}
@@ -16,33 +16,14 @@ Inv-loop out₀ words n at₀ i₀ out at i = (i ≤ n) × Appended out₀ 0 (ea
 abbrev μ-loop : tie.MeasureT-loop
 μ-loop out₀ words n at₀ i₀ out at i = n - i
 
-put-rule-requires : tie.Need-put-rule-requires Inv-loop μ-loop
-put-rule-requires c κs =
-    let loop = c .before .before in
-    let start = loop .before .before .before in
-    (omega (arith, start .pre), omega (arith, append-length (loop .loop .inv .1), start .pre))
-
-loop-again : tie.Need-loop-again Inv-loop μ-loop
-loop-again c =
-    let put = c .before .before in
-    let loop = put .before .before .before in
-    (omega arith, append-next _ _ (loop .loop .inv .1) (put .put-rule .ensures .0), omega arith)
-
-returns : tie.Need-returns Inv-loop μ-loop
-returns c =
-    let e : c .before .loop .i ≡ c .before .before .before .before .args .n = omega arith in
-    (rw e at (c .before .loop .inv .1), omega arith)
-
 pub put-rules-spec : {M : Type 1} → statement M
-put-rules-spec =
-    tie.close
-    (tie.spec
-    Inv-loop
-    μ-loop
-    (λ c. (omega arith, append-none _ _ _, omega arith))
-    put-rule-requires
-    (λ c. search needs)
-    (λ c. search needs)
-    loop-again
+put-rules-spec = tie.close (tie.spec
+    Inv-loop μ-loop (λ c. (omega arith, append-none _ _ _, omega arith))
+    (λ c κs. let loop = c .before .before in let start = loop .before .before .before in
+    (omega (arith, start .pre), omega (arith, append-length (loop .loop .inv .1), start .pre)))
+    (λ c. search needs) (λ c. search needs)
+    (λ c. let put = c .before .before in let loop = put .before .before .before in
+    (omega arith, append-next _ _ (loop .loop .inv .1) (put .put-rule .ensures .0), omega arith))
     (λ c. append-length (c .before .loop .inv .1))
-    returns)
+    (λ c. let e : c .before .loop .i ≡ c .before .before .before .before .args .n = omega arith in
+    (rw e at (c .before .loop .inv .1), omega arith)))

@@ -3,8 +3,8 @@ use Prim.Native.Nat.{ℕ, _≤_}
 use mathlib.Core.Path.{_≡_}
 use mathlib.Core.List.{List}
 use native.Mathlib.Omega.{arith}
-use borrow.Author.Needs.{needs}
 use lib.ListN.{length, length-append}
+use borrow.Author.Needs.{needs}
 use Rattle.meaning.specs.Run.{written}
 use Rattle.io.proofs.Counting.{front}
 use Rattle.listing.proofs.run.Statement.{statement}
@@ -15,22 +15,9 @@ written-fits : (old t : List ℕ) {new : List ℕ} {e : ℕ} → e ≡ length t 
 unfolding written
 written-fits old t e w = rw (w, length-append t) (omega arith)
 
-array-share-prefix-out : tie.Need-array-share-prefix-out
-array-share-prefix-out c = written-fits _ _ (c .text .ensures .0) (c .text .ensures .1)
-
-slice-aggregate-write-all : tie.Need-slice-aggregate-write-all
-slice-aggregate-write-all c = front _ _ (written-fits _ _ (c .before .text .ensures .0) (c .before .text .ensures .1))
-
 pub run-spec : {M : Type 1} → statement M
-run-spec =
-    tie.close
-    (tie.spec
-    (λ c. search needs)
-    (λ c κs. search needs)
-    (λ c. search needs)
-    (λ c. search needs)
-    (λ c κs. search needs)
-    array-share-prefix-out
-    slice-aggregate-write-all
-    (λ c κs. search needs)
-    (λ c. search needs))
+run-spec = tie.close (tie.spec
+    (λ c. search needs) (λ c κs. search needs) (λ c. search needs) (λ c. search needs) (λ c κs. search needs)
+    (λ c. written-fits _ _ (c .text .ensures .0) (c .text .ensures .1))
+    (λ c. front _ _ (written-fits _ _ (c .before .text .ensures .0) (c .before .text .ensures .1)))
+    (λ c κs. search needs) (λ c. search needs))

@@ -3,11 +3,9 @@ use Prim.Native.Nat.{_-_, _≤_, min, max}
 use mathlib.Core.Path.{refl}
 use native.Mathlib.Omega.{arith}
 use lib.ListN.{getD}
-use Rattle.rows.specs.Cells.{width}
-use Rattle.rows.proofs.Stored.{Stored, stored-none, stored-more}
-use Rattle.rows.proofs.ByCell.{along-values}
 use borrow.Author.Needs.{needs}
-use Rattle.rows.proofs.raise.Statement.{statement}
+use Rattle.rows.specs.Cells.{width}
+use Rattle.rows.proofs.{Stored.Stored, Stored.stored-none, Stored.stored-more, ByCell.along-values, raise.Statement.statement}
 use Rattle.rows.proofs.raise.Tie as tie
 
 abbrev Inv-loop : tie.InvT-loop
@@ -16,20 +14,14 @@ Inv-loop row₀ by u j₀ row j = (j ≤ width) × Stored (λ i. i) (λ j. max (
 abbrev μ-loop : tie.MeasureT-loop
 μ-loop row₀ by u j₀ row j = width - j
 
-loop-holds : tie.Need-loop-holds Inv-loop μ-loop
-loop-holds c = (omega arith, stored-none)
-
 loop-again : tie.Need-loop-again Inv-loop μ-loop
 loop-again c =
     let turn = c .before .before .before .before .before .loop in
     let own = turn .inv .1 .off (turn .j) (λ i h z. omega arith) in
     (omega arith, stored-more (turn .inv .1) refl (omega arith) (omega (arith, c .greater .ensures, c .before .lesser .ensures)) (λ i h. h))
 
-returns : tie.Need-returns Inv-loop μ-loop
-returns c = along-values (c .before .before .pre) (c .before .loop .inv .1) (omega arith)
-
 pub raise-spec : {M : Type 1} → statement M
-raise-spec =
-    tie.close
-    (tie.spec Inv-loop μ-loop loop-holds (λ c. search needs) (λ c. search needs) (λ c κs. search needs)
-    (λ c κs. search needs) (λ c. search needs) (λ c. search needs) (λ c. search needs) loop-again returns)
+raise-spec = tie.close (tie.spec
+    Inv-loop μ-loop (λ c. (omega arith, stored-none)) (λ c. search needs) (λ c. search needs) (λ c κs. search needs)
+    (λ c κs. search needs) (λ c. search needs) (λ c. search needs) (λ c. search needs) loop-again
+    (λ c. along-values (c .before .before .pre) (c .before .loop .inv .1) (omega arith)))

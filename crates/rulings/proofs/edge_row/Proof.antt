@@ -7,8 +7,4 @@ use Rattle.rulings.proofs.edge_row.Tie as tie
 
 pub edge-row-spec : {M : Type 1} → statement M
 unfolding edgeRule modeOf
-edge-row-spec =
-    tie.close
-    (tie.spec
-    (λ c. rw (eq-eqb _ _ (c .if1 .taken)))
-    (λ c. rw (ne-eqb _ _ (c .if1 .left))))
+edge-row-spec = tie.close (tie.spec (λ c. rw (eq-eqb _ _ (c .if1 .taken))) (λ c. rw (ne-eqb _ _ (c .if1 .left))))

@@ -7,8 +7,4 @@ use Rattle.rulings.proofs.join_rows.Tie as tie
 
 pub join-rows-spec : {M : Type 1} → statement M
 unfolding joinRules modeOf
-join-rows-spec =
-    tie.close
-    (tie.spec
-    (λ c. rw (eq-eqb _ _ (c .if1 .taken)))
-    (λ c. rw (ne-eqb _ _ (c .if1 .left))))
+join-rows-spec = tie.close (tie.spec (λ c. rw (eq-eqb _ _ (c .if1 .taken))) (λ c. rw (ne-eqb _ _ (c .if1 .left))))

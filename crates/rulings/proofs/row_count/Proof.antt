@@ -1,11 +1,10 @@
 -- `row_count` meets its contract: by the kind, and of a test by the mode.
 use Prim.Native.Nat.{ℕ, _<_, _≤_}
 use mathlib.Core.Path.{_≡_, refl}
-use mathlib.Core.Logic.{_≢_, inl, inr}
+use mathlib.Core.Logic.{inl, inr, _≢_}
 use native.Mathlib.Omega.{arith}
 use borrow.Author.Tests.{eq-eqb, ne-eqb}
-use Rattle.meaning.specs.Record.{Mode, kinds, kindOf}
-use Rattle.meaning.specs.Translation.{ruleNumber}
+use Rattle.meaning.specs.{Record.Mode, Record.kinds, Record.kindOf, Translation.ruleNumber}
 use Rattle.meaning.proofs.Bounds.{le-or-lt}
 use Rattle.records.specs.Code.{modeOf}
 use Rattle.records.proofs.Ranges.{stretch}
@@ -28,18 +27,10 @@ three-rows n m l h p q = elim (le-or-lt n 6) [
   ]
 ]
 
-returns-5 : tie.Need-returns-5
-returns-5 c =
-    let ((_, p9), p7) = c .match .rest in
-    three-rows _ _ (c .before .if1 .left) (c .before .before .pre) p7 p9
-
 pub row-count-spec : {M : Type 1} → statement M
 unfolding kindOf kinds ruleNumber modeOf
-row-count-spec =
-    tie.close
-    (tie.spec
-    (λ c. two-rows _ _ (c .if1 .taken))
-    (λ c. rw (c .match .keys1))
+row-count-spec = tie.close (tie.spec
+    (λ c. two-rows _ _ (c .if1 .taken)) (λ c. rw (c .match .keys1))
     (λ c. rw (c .before .match .keys2, eq-eqb _ _ (c .if2 .taken)))
     (λ c. rw (c .before .match .keys2, ne-eqb _ _ (c .if2 .left)))
-    returns-5)
+    (λ c. let ((_, p9), p7) = c .match .rest in three-rows _ _ (c .before .if1 .left) (c .before .before .pre) p7 p9))

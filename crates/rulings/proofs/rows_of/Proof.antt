@@ -4,8 +4,7 @@ use mathlib.Core.Path.{_≡_}
 use mathlib.Core.Logic.{⊎-elim}
 use native.Mathlib.Omega.{arith}
 use borrow.Author.Needs.{needs}
-use Rattle.meaning.specs.Record.{kinds, kindOf}
-use Rattle.meaning.specs.Translation.{rulesOf}
+use Rattle.meaning.specs.{Record.kinds, Record.kindOf, Translation.rulesOf}
 use Rattle.records.proofs.Numbers.{modal-kind, move-kind}
 use Rattle.rulings.proofs.rows_of.Statement.{statement}
 use Rattle.rulings.proofs.rows_of.Tie as tie
@@ -17,40 +16,21 @@ from-three n p q r = omega arith
 nine : (n : ℕ) → 7 ≤ n → n < 11 → (n ≡ 7 → ⊥) → (n ≡ 8 → ⊥) → (n ≡ 10 → ⊥) → n ≡ 9
 nine n h l p q r = omega arith
 
--- ---- a move, and those kinds
-returns-7 : tie.Need-returns-7
-unfolding rulesOf
-returns-7 c = rw (move-kind _ (c .before .before .if1 .left) (c .before .if2 .taken)) (c .move-rows .ensures)
-
-returns-8 : tie.Need-returns-8
-unfolding kindOf kinds rulesOf
-returns-8 c =
-    let at = c .before .before in
-    let ((((((_, p0), p1), p2), p7), p8), p10) = at .match .rest in
-    ⊎-elim
-    (λ w. rw (modal-kind _ (from-three _ p0 p1 p2) (w .taken)) (c .same-rows4 .ensures))
-    (λ w. rw (nine _ (w .1 .left) (at .before .pre .0) p7 p8 p10) (c .same-rows4 .ensures))
-    (c .before .if1 .came)
-
 pub rows-of-spec : {M : Type 1} → statement M
 unfolding kindOf kinds rulesOf
-rows-of-spec =
-    tie.close
-    (tie.spec
-    (λ c κs. search needs)
-    (λ c κs. search needs)
-    (λ c. search needs)
-    (λ c κs. search needs)
-    (λ c κs. search needs)
-    (λ c κs. search needs)
-    (λ c κs. search needs)
-    (λ c κs. search needs)
-    (λ c κs. search needs)
+rows-of-spec = tie.close (tie.spec
+    (λ c κs. search needs) (λ c κs. search needs) (λ c. search needs) (λ c κs. search needs) (λ c κs. search needs)
+    (λ c κs. search needs) (λ c κs. search needs) (λ c κs. search needs) (λ c κs. search needs)
     (λ c. rw (c .before .match .keys1) (c .same-rows .ensures))
     (λ c. rw (c .before .match .keys2) (c .same-rows2 .ensures))
     (λ c. rw (c .before .match .keys3) (c .same-rows3 .ensures))
     (λ c. rw (c .before .match .keys4) (c .test-rows .ensures))
     (λ c. rw (c .before .match .keys5) (c .join-rows .ensures))
     (λ c. rw (c .before .match .keys6) (c .join-rows2 .ensures))
-    returns-7
-    returns-8)
+    (λ c. rw (move-kind _ (c .before .before .if1 .left) (c .before .if2 .taken)) (c .move-rows .ensures))
+    (λ c. let at = c .before .before in
+    let ((((((_, p0), p1), p2), p7), p8), p10) = at .match .rest in
+    ⊎-elim
+    (λ w. rw (modal-kind _ (from-three _ p0 p1 p2) (w .taken)) (c .same-rows4 .ensures))
+    (λ w. rw (nine _ (w .1 .left) (at .before .pre .0) p7 p8 p10) (c .same-rows4 .ensures))
+    (c .before .if1 .came)))

@@ -13,9 +13,6 @@ coded κ = sortCode (sortOf κ)
 
 pub sort-of-spec : {M : Type 1} → statement M
 unfolding kinds columnsOf sortCode
-sort-of-spec =
-    tie.close
-    (tie.spec
+sort-of-spec = tie.close (tie.spec
     (λ c. stretch coded 3 5 6 refl _ (omega arith) (omega arith))
-    (λ c. stretch coded 2 0 5 refl _ (omega arith) (omega arith))
-    (λ c. onward coded 11 37 refl _ (omega arith)))
+    (λ c. stretch coded 2 0 5 refl _ (omega arith) (omega arith)) (λ c. onward coded 11 37 refl _ (omega arith)))

@@ -17,9 +17,7 @@ shorthand-taken false n h l = stretch (known core) false 32 16 refl n h (omega a
 
 pub takes-spec : {M : Type 1} → statement M
 unfolding kinds known languageOf
-takes-spec =
-    tie.close
-    (tie.spec
+takes-spec = tie.close (tie.spec
     (λ c. stretch (known _) true 0 11 refl _ (omega arith) (omega arith))
     (λ c. shorthand-taken _ _ (omega arith) (omega arith))
     (λ c. stretch (known _) false 11 21 refl _ (omega arith) (omega arith))

@@ -13,9 +13,7 @@ held κ = useCode (useB κ)
 
 pub use-b-spec : {M : Type 1} → statement M
 unfolding kinds columnsOf argumentsOf useCode sortCode
-use-b-spec =
-    tie.close
-    (tie.spec
+use-b-spec = tie.close (tie.spec
     (λ c. stretch held 3 8 2 refl _ (omega arith) (omega arith))
     (λ c. stretch held 2 3 2 refl _ (omega arith) (omega arith))
     (λ c. stretch held 2 33 3 refl _ (omega arith) (omega arith))
@@ -23,5 +21,4 @@ use-b-spec =
     (λ c. stretch held 0 0 3 refl _ (omega arith) (omega arith))
     (λ c. stretch held 0 5 3 refl _ (omega arith) (omega arith))
     (λ c. stretch held 0 10 23 refl _ (omega arith) (omega arith))
-    (λ c. stretch held 0 36 10 refl _ (omega arith) (omega arith))
-    (λ c. onward held 48 0 refl _ (omega arith)))
+    (λ c. stretch held 0 36 10 refl _ (omega arith) (omega arith)) (λ c. onward held 48 0 refl _ (omega arith)))

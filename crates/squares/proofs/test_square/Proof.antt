@@ -2,12 +2,10 @@
 use Prim.Native.Nat.{_-_, _≤_}
 use mathlib.Core.Path.{refl}
 use native.Mathlib.Omega.{arith}
-use Rattle.rows.specs.Cells.{rowAt}
-use Rattle.rows.proofs.Stored.{stored-none, stored-more}
-use Rattle.rows.proofs.Diagonal.{Diagonal}
-use Rattle.squares.proofs.Marked.{test-marked}
 use borrow.Author.Needs.{needs}
-use Rattle.squares.proofs.test_square.Statement.{statement}
+use Rattle.rows.specs.Cells.{rowAt}
+use Rattle.rows.proofs.{Stored.stored-none, Stored.stored-more, Diagonal.Diagonal}
+use Rattle.squares.proofs.{Marked.test-marked, test_square.Statement.statement}
 use Rattle.squares.proofs.test_square.Tie as tie
 
 abbrev Inv-loop : tie.InvT-loop
@@ -16,18 +14,12 @@ Inv-loop table start l s₀ k₀ s k = (k ≤ l) × Diagonal 0 (rowAt table star
 abbrev μ-loop : tie.MeasureT-loop
 μ-loop table start l s₀ k₀ s k = l - k
 
-loop-holds : tie.Need-loop-holds Inv-loop μ-loop
-loop-holds c = (search needs, stored-none)
-
 loop-again : tie.Need-loop-again Inv-loop μ-loop
 loop-again c =
     (omega arith, stored-more (c .before .before .loop .inv .1) (omega arith) (omega arith) refl (λ i h. omega arith))
 
-returns : tie.Need-returns Inv-loop μ-loop
-returns c = test-marked (c .before .before .pre .0) (omega arith) (c .before .loop .inv .1)
-
 pub test-square-spec : {M : Type 1} → statement M
-test-square-spec =
-    tie.close
-    (tie.spec Inv-loop μ-loop loop-holds (λ c. search needs) (λ c. search needs) (λ c. search needs)
-    (λ c. search needs) (λ c. search needs) (λ c. search needs) loop-again returns)
+test-square-spec = tie.close (tie.spec
+    Inv-loop μ-loop (λ c. (search needs, stored-none)) (λ c. search needs) (λ c. search needs) (λ c. search needs)
+    (λ c. search needs) (λ c. search needs) (λ c. search needs) loop-again
+    (λ c. test-marked (c .before .before .pre .0) (omega arith) (c .before .loop .inv .1)))

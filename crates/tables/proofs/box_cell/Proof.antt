@@ -3,8 +3,7 @@ use Prim.Native.Nat.{_-_, _≤_, min}
 use mathlib.Core.Path.{_≡_, refl, _∙_, ap₂}
 use native.Mathlib.Omega.{arith}
 use borrow.Author.Needs.{needs}
-use Rattle.meaning.specs.Three.{least}
-use Rattle.meaning.specs.Value.{boxRow}
+use Rattle.meaning.specs.{Three.least, Value.boxRow}
 use Rattle.meaning.proofs.Bounds.{least-more}
 use Rattle.rows.specs.Cells.{at, rowAt}
 use Rattle.tables.proofs.box_cell.Statement.{statement}
@@ -23,7 +22,8 @@ loop-holds c = (search needs, refl)
 loop-again : tie.Need-loop-again Inv-loop μ-loop
 unfolding boxRow
 loop-again c =
-    (omega arith, c .lesser .ensures ∙ rw (least-more (c .before .before .before .before .before .loop .j)) (ap₂ min (c .before .before .before .before .before .loop .inv .1) (c .before .imp .ensures)))
+    let turn = c .before .before .before .before .before .loop in
+    (omega arith, c .lesser .ensures ∙ rw (least-more (turn .j)) (ap₂ min (turn .inv .1) (c .before .imp .ensures)))
 
 returns : tie.Need-returns Inv-loop μ-loop
 returns c =

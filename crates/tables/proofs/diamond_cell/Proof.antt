@@ -3,8 +3,7 @@ use Prim.Native.Nat.{_-_, _≤_, max}
 use mathlib.Core.Path.{_≡_, refl, _∙_, ap₂}
 use native.Mathlib.Omega.{arith}
 use borrow.Author.Needs.{needs}
-use Rattle.meaning.specs.Three.{greatest}
-use Rattle.meaning.specs.Value.{diamondRow}
+use Rattle.meaning.specs.{Three.greatest, Value.diamondRow}
 use Rattle.meaning.proofs.Bounds.{greatest-more}
 use Rattle.rows.specs.Cells.{at, rowAt}
 use Rattle.tables.proofs.diamond_cell.Statement.{statement}
@@ -23,7 +22,8 @@ loop-holds c = (search needs, refl)
 loop-again : tie.Need-loop-again Inv-loop μ-loop
 unfolding diamondRow
 loop-again c =
-    (omega arith, c .greater .ensures ∙ rw (greatest-more (c .before .before .before .before .before .loop .j)) (ap₂ max (c .before .before .before .before .before .loop .inv .1) (c .before .lesser .ensures)))
+    let turn = c .before .before .before .before .before .loop in
+    (omega arith, c .greater .ensures ∙ rw (greatest-more (turn .j)) (ap₂ max (turn .inv .1) (c .before .lesser .ensures)))
 
 returns : tie.Need-returns Inv-loop μ-loop
 returns c =

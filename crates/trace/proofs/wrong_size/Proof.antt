@@ -1,9 +1,7 @@
 -- `wrong_size` meets its contract: its four tests in turn are those of the eighth ground.
 use Prim.Native.Nat.{_≤_}
-use native.Mathlib.Nat.{mul-le-mul}
-use native.Mathlib.Omega.{arith}
-use borrow.Author.Needs.{needs}
-use borrow.Author.Tests.{lt-ltb, le-ltb, eq-eqb, ne-eqb}
+use native.Mathlib.{Nat.mul-le-mul, Omega.arith}
+use borrow.Author.{Needs.needs, Tests.lt-ltb, Tests.le-ltb, Tests.eq-eqb, Tests.ne-eqb}
 use Rattle.meaning.specs.Refusal.{ground8-cells, mostInstants}
 use Rattle.trace.proofs.wrong_size.Statement.{statement}
 use Rattle.trace.proofs.wrong_size.Tie as tie
@@ -12,23 +10,16 @@ use Rattle.trace.proofs.wrong_size.Tie as tie
 few : (c : tie.Else1) → let a = c .before .before .before .args in a .width ≤ a .most
 few c = rw (c .before .wide .ensures .0) at (c .if1 .left)
 
-mul-result : tie.Need-mul-result
-mul-result c =
-    let one = c .before .before in
-    let a = one .before .before .before .args in
+pub wrong-size-spec : {M : Type 1} → statement M
+unfolding ground8-cells
+wrong-size-spec = tie.close (tie.spec
+    (λ c κs. search needs) (λ c. simp (lt-ltb _ _ (rw (c .before .wide .ensures .0) at (c .if1 .taken))))
+    (λ c. simp (le-ltb _ _ (few (c .before)), eq-eqb _ _ (c .if2 .taken)))
+    (λ c. simp (le-ltb _ _ (few (c .before .before)), ne-eqb _ _ (c .before .if2 .left), lt-ltb _ _ (c .if3 .taken)))
+    (λ c. let one = c .before .before in let a = one .before .before .before .args in
     omega (
       arith,
       one .before .wide .ensures,
       mul-le-mul {n₁ = a .width} {m₁ = a .instants} {n₂ = a .most} {m₂ = mostInstants} (few one) (omega arith),
-    )
-
-pub wrong-size-spec : {M : Type 1} → statement M
-unfolding ground8-cells
-wrong-size-spec =
-    tie.close
-    (tie.spec (λ c κs. search needs)
-    (λ c. simp (lt-ltb _ _ (rw (c .before .wide .ensures .0) at (c .if1 .taken))))
-    (λ c. simp (le-ltb _ _ (few (c .before)), eq-eqb _ _ (c .if2 .taken)))
-    (λ c. simp (le-ltb _ _ (few (c .before .before)), ne-eqb _ _ (c .before .if2 .left), lt-ltb _ _ (c .if3 .taken)))
-    mul-result
+    ))
     (λ c. simp (le-ltb _ _ (few (c .before .before)), ne-eqb _ _ (c .before .if2 .left), le-ltb _ _ (c .if3 .left))))

@@ -1,10 +1,9 @@
 -- `record_rows` meets its contract: the labels are small, and the rules asked for are those of the record.
-use Prim.Native.Nat.{_≤_, _<_}
+use Prim.Native.Nat.{_<_, _≤_}
 use native.Mathlib.Omega.{arith}
 use borrow.Author.Needs.{needs}
 use Rattle.paths.proofs.Moving.{core-kind, first-small, second-small}
-use Rattle.writing.proofs.Rowing.{record-rules}
-use Rattle.writing.proofs.record_rows.Statement.{statement}
+use Rattle.writing.proofs.{Rowing.record-rules, record_rows.Statement.statement}
 use Rattle.writing.proofs.record_rows.Tie as tie
 
 -- ---- what is known of the record
@@ -23,56 +22,24 @@ small c =
       rw (c .field-b .ensures) (second-small w l),
     )
 
--- ---- the calls and the result
-rows-of-requires : tie.Need-rows-of-requires
-rows-of-requires c κs =
-    let four = c .before in
-    let three = four .before .before in
-    let two = three .before in
+pub record-rows-spec : {M : Type 1} → statement M
+record-rows-spec = tie.close (tie.spec
+    (λ c κs. search needs) (λ c κs. search needs) (λ c κs. search needs) (λ c. search needs) (λ c. search needs)
+    (λ c κs. search needs) (λ c κs. let h = small (c .before .before) in (h .0, omega arith))
+    (λ c κs. let h = small (c .before .before .before) in (h .0, omega arith)) (λ c κs. search needs)
+    (λ c κs. search needs) (λ c κs. search needs)
+    (λ c. omega (arith, small (c .before .before .before .before .before .before .before)))
+    (λ c κs. let four = c .before in let three = four .before .before in let two = three .before in
     let h = small (two .before .before .before) in (
       h .2,
       omega (arith, two .before .label .ensures),
       omega (arith, two .label2 .ensures),
       omega (arith, four .label4 .ensures, four .before .continuation .ensures),
       omega arith,
-    )
-
-returns : tie.Need-returns
-returns c =
-    let mode = c .before in
-    let four = mode .before in
-    let three = four .before .before in
-    let two = three .before in
-    let b = two .before .before .before in
+    ))
+    (λ c. let mode = c .before in let four = mode .before in let three = four .before .before in
+    let two = three .before in let b = two .before .before .before in
     let (w, e, l) = start b .pre in
-    rw (
-      mode .mode .ensures,
-      four .label4 .ensures,
-      four .before .continuation .ensures,
-      three .label3 .ensures,
-      two .label2 .ensures,
-      two .before .label .ensures,
-      b .field-b .ensures,
-      b .before .field-a .ensures,
-      b .before .before .kind-at .ensures,
-      record-rules w l e,
-    ) at (c .rows-of .ensures)
-
-pub record-rows-spec : {M : Type 1} → statement M
-record-rows-spec =
-    tie.close
-    (tie.spec
-    (λ c κs. search needs)
-    (λ c κs. search needs)
-    (λ c κs. search needs)
-    (λ c. search needs)
-    (λ c. search needs)
-    (λ c κs. search needs)
-    (λ c κs. let h = small (c .before .before) in (h .0, omega arith))
-    (λ c κs. let h = small (c .before .before .before) in (h .0, omega arith))
-    (λ c κs. search needs)
-    (λ c κs. search needs)
-    (λ c κs. search needs)
-    (λ c. omega (arith, small (c .before .before .before .before .before .before .before)))
-    rows-of-requires
-    returns)
+    let rows = rw (mode .mode .ensures, four .label4 .ensures, four .before .continuation .ensures) at (c .rows-of .ensures) in
+    let rows = rw (three .label3 .ensures, two .label2 .ensures, two .before .label .ensures) at rows in
+    rw (b .field-b .ensures, b .before .field-a .ensures, b .before .before .kind-at .ensures, record-rules w l e) at rows))

@@ -3,11 +3,10 @@
 use Prim.Native.Nat.{ℕ, zero, suc, _+_, _≤_}
 use mathlib.Core.Path.{_≡_, refl}
 use mathlib.Core.Bool.{Bool, true, false}
+use native.Mathlib.Omega.{arith}
 use lib.Dec.{ltb}
 use borrow.Author.Tests.{ltb-true, ltb-false}
-use native.Mathlib.Omega.{arith}
-use Rattle.meaning.specs.Record.{numberOf, kinds, kindOf}
-use Rattle.meaning.specs.Shorthand.{expansion}
+use Rattle.meaning.specs.{Record.numberOf, Record.kinds, Record.kindOf, Shorthand.expansion}
 use Rattle.records.proofs.Ranges.{stretch, onward}
 use Rattle.expand.specs.Steps.{formSteps, pathSteps, stepsOf, digits, rowNumber}
 use Rattle.expand.proofs.steps.row_of.Statement.{statement}
