@@ -1,30 +1,16 @@
 -- The atoms of a tree. In well-formed records every atom's number is below A, and so it is in the tree of each record: a node
 -- has the atoms of its children, and a shorthand's expansion those of its arguments.
---   formAtoms F, pathAtoms P    the least number that all their atoms are below
 use Prim.Native.Nat.{ℕ, zero, suc, _+_, _≤_, _<_, max}
 use mathlib.Core.List.{List}
 use native.Mathlib.Nat.{le-refl}
 use native.Mathlib.Omega.{arith}
 use Rattle.meaning.specs.Record.{Kind, Shorthand, columnsOf, argumentsOf, Language, Use, unused, atomNumber, child, useA, useB, count, kindAt}
-use Rattle.meaning.specs.Formula.{Form, Path}
+use Rattle.meaning.specs.Formula.{Form, Path, formAtoms, pathAtoms}
 use Rattle.meaning.specs.Shorthand.{expansion}
 use Rattle.meaning.specs.Tree.{Tree, asForm, asPath, nodeOf, treeAt, formAt}
 use Rattle.meaning.specs.WellFormed.{Fits, WellFormed}
 use Rattle.meaning.proofs.Cases.{by-kind, by-shorthand}
 use Rattle.meaning.proofs.Nodes.{tree-of}
-
-unfoldable mutual
-  pub formAtoms : Form → ℕ
-  formAtoms (Form.constant v) = 0
-  formAtoms (Form.atom i) = i + 1
-  formAtoms (Form.modal m p f) = max (pathAtoms p) (formAtoms f)
-
-  pub pathAtoms : Path → ℕ
-  pathAtoms (Path.move w) = 0
-  pathAtoms (Path.test f) = formAtoms f
-  pathAtoms (Path.choice p q) = max (pathAtoms p) (pathAtoms q)
-  pathAtoms (Path.sequence p q) = max (pathAtoms p) (pathAtoms q)
-  pathAtoms (Path.star p) = pathAtoms p
 
 -- Of a tree taken as either sort.
 abbrev treeAtoms : Tree → ℕ

@@ -14,7 +14,7 @@ use lib.Seq.{getD-append-add, getD-drop}
 use borrow.Author.Tests.{eq-eqb, ne-eqb}
 use Rattle.meaning.specs.Run.{written, each, tabulate, cellOf}
 use Rattle.meaning.specs.Record.{core, recordSize, count, kindAt, sortOf, formula}
-use Rattle.meaning.specs.Formula.{Form}
+use Rattle.meaning.specs.Formula.{Form, formAtoms}
 use Rattle.meaning.specs.Tree.{formAt, formSize, postorder}
 use Rattle.meaning.specs.Rule.{ruleSize, words, placed, bodyValue, headValue}
 use Rattle.meaning.specs.Translation.{translation}
@@ -28,7 +28,6 @@ use Rattle.meaning.specs.Outcome.{Answered, RowsAre, VerdictIs, RulesRea
 use Rattle.meaning.specs.Three.{negation}
 use Rattle.meaning.proofs.Bounds.{le-or-lt}
 use Rattle.meaning.proofs.Runs.{length-each, length-tabulate, getD-each, getD-tabulate}
-use Rattle.meaning.proofs.Atoms.{formAtoms}
 use Rattle.meaning.proofs.Postorder.{form-part}
 use Rattle.meaning.proofs.RuleCount.{words-length, translation-counted}
 use Rattle.meaning.proofs.Ordered.{first-of}

@@ -16,14 +16,13 @@ use lib.ListN.{length, getD, length-append}
 use lib.Dec.{eqb}
 use borrow.Author.Tests.{eq-eqb, ne-eqb}
 use Rattle.meaning.specs.Record.{Language, recordSize, recordBytes, Kind, columnsOf, Sort, unused, child, useA, useB, sortOf, known, kindAt, names, uses, placesIn}
-use Rattle.meaning.specs.Formula.{Form, Path}
+use Rattle.meaning.specs.Formula.{Form, Path, formAtoms, pathAtoms}
 use Rattle.meaning.specs.Tree.{Tree, noTree, asForm, asPath, nodeOf, trees, treeAt, formSize, pathSize, formFrom, pathFrom}
 use Rattle.meaning.specs.WellFormed.{Fits}
 use Rattle.meaning.proofs.Bounds.{le-or-lt, below-suc}
 use Rattle.meaning.proofs.Accepted.{Sound}
 use Rattle.meaning.proofs.Nodes.{tree-node, trees-settled}
 use Rattle.meaning.proofs.Bytes.{At, Reads, at-first, at-second, at-record}
-use Rattle.meaning.proofs.Atoms.{formAtoms, pathAtoms}
 
 -- ---- counting
 -- 1 if the two are the same record, else 0.

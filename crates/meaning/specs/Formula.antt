@@ -1,7 +1,8 @@
 -- Specification, Records: formulas F and paths P.
 --   mayStand p     whether the path may stand still
 --   goes way p     whether the path has a step (ahead) or a back step (back) of its own
-use Prim.Native.Nat.{ℕ}
+--   formAtoms F, pathAtoms P    the least number that all their atoms are below
+use Prim.Native.Nat.{ℕ, _+_, max}
 use mathlib.Core.Bool.{Bool, true, false, _&&_, _||_}
 use Rattle.meaning.specs.Record.{Mode, Way, ahead, back}
 
@@ -38,3 +39,16 @@ goes way (test f) = false
 goes way (choice p q) = goes way p || goes way q
 goes way (sequence p q) = goes way p || goes way q
 goes way (star p) = goes way p
+
+unfoldable mutual
+  pub formAtoms : Form → ℕ
+  formAtoms (constant v) = 0
+  formAtoms (atom i) = i + 1
+  formAtoms (modal m p f) = max (pathAtoms p) (formAtoms f)
+
+  pub pathAtoms : Path → ℕ
+  pathAtoms (move w) = 0
+  pathAtoms (test f) = formAtoms f
+  pathAtoms (choice p q) = max (pathAtoms p) (pathAtoms q)
+  pathAtoms (sequence p q) = max (pathAtoms p) (pathAtoms q)
+  pathAtoms (star p) = pathAtoms p

@@ -11,6 +11,7 @@ pub mod Worth
 pub mod Rule
 pub mod Translation
 pub mod Judge
+pub mod Text
 pub mod Refusal
 pub mod WellFormed
 pub mod Service

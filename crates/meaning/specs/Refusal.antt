@@ -12,10 +12,11 @@ use lib.Dec.{leb, ltb, eqb}
 use Rattle.meaning.specs.Run.{each}
 use Rattle.meaning.specs.Record.{Language, core, full, recordSize, mostRecords, count, zeroByte, fieldA, fieldB, kindAt, Kind, Sort, Use, unused, atomNumber, child, useA, useB, sortOf, known, ahead, back, places}
 use Rattle.meaning.specs.Formula.{mayStand, goes}
-use Rattle.meaning.specs.Tree.{formAt, pathAt, formSize}
+use Rattle.meaning.specs.Tree.{formAt, pathAt, formSize, postorder}
 use Rattle.meaning.specs.Rule.{Rule, ruleSize, ruleAt, symbolOf, isPrevious}
 use Rattle.meaning.specs.Translation.{translation}
 use Rattle.meaning.specs.Judge.{ruleCount}
+use Rattle.meaning.specs.Text.{spell, isAhead, mostText, read, isRead, formIn}
 
 pub record Ground : Type 0 where
   pub number : ℕ
@@ -155,10 +156,35 @@ badRule W ρ =
 unfoldable pub ground13 : List ℕ → ℕ → ℕ → Ground
 ground13 ws W i = ground 13 (badRule W (ruleAt ws i))
 
--- ---- the expander's count
--- 14: the expansion has over 255 records.
+-- ---- sizes
+-- 14: over 255 records would be written.
 unfoldable pub ground14 : ℕ → Ground
 ground14 n = ground 14 (ltb mostRecords n)
+
+-- ---- text
+-- 14: text of more bytes than any formula takes.
+unfoldable pub ground14-text : List ℕ → Ground
+ground14-text t = ground 14 (ltb mostText (length t))
+
+unfoldable pub isBack : Kind → Bool
+isBack (Kind.constant v) = false
+isBack Kind.atom = false
+isBack (Kind.modal m) = false
+isBack (Kind.move w) = not (isAhead w)
+isBack Kind.test = false
+isBack Kind.choice = false
+isBack Kind.sequence = false
+isBack Kind.star = false
+isBack (Kind.shorthand σ) = false
+isBack Kind.unknown = false
+
+-- 18: a back step, which has no sign.
+unfoldable pub ground18 : List ℕ → ℕ → Ground
+ground18 s r = ground 18 (isBack (kindAt s r))
+
+-- 19: the text of no formula.
+unfoldable pub ground19 : List ℕ → Ground
+ground19 t = ground 19 (not (isRead (read t)))
 
 -- ---- the orders
 -- How many records the whole formula takes with its shorthands written out.
@@ -195,6 +221,20 @@ starredGrounds s A = checkGrounds s A ++ starGrounds s
 
 unfoldable pub translateGrounds : List ℕ → ℕ → ℕ → List Ground
 translateGrounds s A room = starredGrounds s A ++ (ground10 (ruleSize * length (translation s A)) room ∷ [])
+
+-- Of the text: its form. Of the formula F that it is: 14; of each record that would be written, 5; and 10.
+abbrev pub formGrounds : List ℕ → ℕ → List Ground
+formGrounds t A = ground8 A ∷ ground14-text t ∷ ground19 t ∷ ground14 (formSize (formIn t)) ∷ []
+
+unfoldable pub readGrounds : List ℕ → ℕ → ℕ → List Ground
+readGrounds t A room =
+    formGrounds t A
+    ++ (each (formSize (formIn t)) (λ r. ground5 (postorder (formIn t)) A r ∷ []) ++ (ground10 (recordSize * formSize (formIn t)) room ∷ []))
+
+unfoldable pub writeGrounds : List ℕ → ℕ → ℕ → List Ground
+writeGrounds s A room =
+    checkGrounds s A
+    ++ (each (count s) (λ r. ground18 s r ∷ []) ++ (ground10 (length (spell (formAt s (pred (count s))))) room ∷ []))
 
 unfoldable pub judgeGrounds : List ℕ → ℕ → ℕ → List ℕ → List Ground
 judgeGrounds ws W L cells =

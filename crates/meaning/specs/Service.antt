@@ -1,7 +1,7 @@
 -- Specification: the complete outcome of each service, on every input.
 --   checkAnswer ..                  the refusal's number, 0 if accepted
 --   expandAnswer .., expandAfter ..  what the service returns, by the room that it has, and what is in the lent buffer afterwards; so for
---                                   value and translate
+--                                   value, translate, and writing and reading text
 --   judgeAnswer ..                  what the judge returns; it lends nothing
 -- A refusal returns its number, other numbers 0, and leaves the buffer as it was.
 use Prim.Native.Nat.{ℕ, pred}
@@ -11,12 +11,13 @@ use lib.ListN.{length}
 use lib.Dec.{eqb}
 use Rattle.meaning.specs.Run.{each, tabulate, written, cellOf}
 use Rattle.meaning.specs.Record.{count, kindAt, sortOf, Sort, formula, path}
-use Rattle.meaning.specs.Tree.{formAt, postorder}
+use Rattle.meaning.specs.Tree.{formAt, formSize, postorder}
 use Rattle.meaning.specs.Value.{Row, valueOf}
 use Rattle.meaning.specs.Rule.{words}
 use Rattle.meaning.specs.Translation.{translation}
 use Rattle.meaning.specs.Judge.{Verdict, verdict}
-use Rattle.meaning.specs.Refusal.{firstOf, checkGrounds, expandGrounds, valueGrounds, translateGrounds, judgeGrounds, wholeForm}
+use Rattle.meaning.specs.Text.{spell, formIn}
+use Rattle.meaning.specs.Refusal.{firstOf, checkGrounds, expandGrounds, valueGrounds, translateGrounds, writeGrounds, readGrounds, judgeGrounds, wholeForm}
 
 -- What is given where the refusal is 0, and what else.
 abbrev pub accepted : {T : Type 0} → ℕ → T → T → T
@@ -71,6 +72,23 @@ translateAnswer s A room =
 
 unfoldable pub translateAfter : List ℕ → ℕ → List ℕ → List ℕ
 translateAfter s A out = accepted (translateAnswer s A (length out) .refusal) (written (words (translation s A)) out) out
+
+-- ---- text
+unfoldable pub writeAnswer : List ℕ → ℕ → ℕ → Counted
+writeAnswer s A room =
+    let refusal = firstOf (writeGrounds s A room) in
+    record { refusal = refusal; count = accepted refusal (length (spell (formAt s (pred (count s))))) 0 }
+
+unfoldable pub writeAfter : List ℕ → ℕ → List ℕ → List ℕ
+writeAfter s A out = accepted (writeAnswer s A (length out) .refusal) (written (spell (formAt s (pred (count s)))) out) out
+
+unfoldable pub readAnswer : List ℕ → ℕ → ℕ → Counted
+readAnswer t A room =
+    let refusal = firstOf (readGrounds t A room) in
+    record { refusal = refusal; count = accepted refusal (formSize (formIn t)) 0 }
+
+unfoldable pub readAfter : List ℕ → ℕ → List ℕ → List ℕ
+readAfter t A out = accepted (readAnswer t A (length out) .refusal) (written (postorder (formIn t)) out) out
 
 -- ---- judge
 pub record Judged : Type 0 where

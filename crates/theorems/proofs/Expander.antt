@@ -9,7 +9,7 @@ use native.Mathlib.Omega.{arith}
 use lib.ListN.{length}
 use Rattle.meaning.specs.Run.{written}
 use Rattle.meaning.specs.Record.{Language, core, full, recordSize, mostRecords, count, Sort}
-use Rattle.meaning.specs.Formula.{Form}
+use Rattle.meaning.specs.Formula.{Form, formAtoms}
 use Rattle.meaning.specs.Tree.{Tree, asForm, formAt, formSize, postorder}
 use Rattle.meaning.specs.Refusal.{mostAtoms, ground10, ground14, expandGrounds, wholeForm}
 use Rattle.meaning.specs.WellFormed.{WellFormed}
@@ -22,7 +22,7 @@ use Rattle.meaning.proofs.Nodes.{tree-of}
 use Rattle.meaning.proofs.Examples.{starred}
 use Rattle.theorems.specs.Expander.{expanded, Expanding, Expander}
 use Rattle.meaning.proofs.Bytes.{at-start}
-use Rattle.meaning.proofs.Atoms.{formAtoms, form-atoms}
+use Rattle.meaning.proofs.Atoms.{form-atoms}
 use Rattle.meaning.proofs.Postorder.{Block, block-once, form-part}
 
 -- ---- what the expander accepts
