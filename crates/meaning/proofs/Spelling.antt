@@ -34,6 +34,11 @@ unfolding then
 then-some none f r e = absurd (not-found r e)
 then-some (some a) f r e = (a, refl, e)
 
+-- The same, to go on with.
+pub then-use : {T U C : Type 0} (x : Option T) (f : T → Option U) (r : U) → then x f ≡ some r
+    → ((a : T) → x ≡ some a → f a ≡ some r → C) → C
+then-use x f r e go = let (a, b, d) = then-some x f r e in go a b d
+
 pub else-some : {T : Type 0} (x y : Option T) (r : T) → else x y ≡ some r → (x ≡ some r) ⊎ (y ≡ some r)
 unfolding else
 else-some none y r e = inr e
@@ -215,15 +220,15 @@ mutual
       | inl a ↦ let (f, x) = sign-some (Form.constant true) F trueSign t u a in rw (← f) (x, refl, omega arith)
       | inr e ↦ elim (else-some _ _ _ e) [
         | inl e ↦
-            let (v, a, e) = then-some (after atomSign t) _ _ e in
-            let ((i, w), b, e) = then-some (readNumber v) _ _ e in
+            then-use (after atomSign t) _ _ e λ v a e.
+            then-use (readNumber v) _ _ e λ (i, w) b e.
             form-is (Form.atom i) F t w u (atom-is i t v w (after-some atomSign t v a) (number-some v w i b)) e
         | inr e ↦
-            let (v, a, e) = then-some (after opening t) _ _ e in
-            let ((p, w), b, e) = then-some (readPath n v) _ _ e in
-            let ((m, x), c, e) = then-some (readMode w) _ _ e in
-            let ((f, y), d, e) = then-some (readForm n x) _ _ e in
-            let (z, g, e) = then-some (after closing y) _ _ e in
+            then-use (after opening t) _ _ e λ v a e.
+            then-use (readPath n v) _ _ e λ (p, w) b e.
+            then-use (readMode w) _ _ e λ (m, x) c e.
+            then-use (readForm n x) _ _ e λ (f, y) d e.
+            then-use (after closing y) _ _ e λ z g e.
             form-is (Form.modal m p f) F t z u (modal-is m p f t v w x y z (after-some opening t v a) (read-path n v w p b) (mode-some w x m c) (read-form n x y f d) (after-some closing y z g)) e
       ]
     ]
@@ -235,22 +240,22 @@ mutual
     | inl a ↦ let (f, x) = sign-some (Path.move ahead) P stepSign t u a in rw (← f) (x, refl, omega arith)
     | inr e ↦ elim (else-some _ _ _ e) [
       | inl e ↦
-          let (v, a, e) = then-some (after testSign t) _ _ e in
-          let ((f, w), b, e) = then-some (readForm n v) _ _ e in
+          then-use (after testSign t) _ _ e λ v a e.
+          then-use (readForm n v) _ _ e λ (f, w) b e.
           let (x, y, z) = read-form n v w f b in
           path-is (Path.test f) P t w u (after-some testSign t v a ∙ ap (testSign ++_) x, y, z) e
       | inr e ↦ elim (else-some _ _ _ e) [
         | inl e ↦
-            let (v, a, e) = then-some (after starSign t) _ _ e in
-            let ((p, w), b, e) = then-some (readPath n v) _ _ e in
+            then-use (after starSign t) _ _ e λ v a e.
+            then-use (readPath n v) _ _ e λ (p, w) b e.
             let (x, y, z) = read-path n v w p b in
             path-is (Path.star p) P t w u (after-some starSign t v a ∙ ap (starSign ++_) x, y, z) e
         | inr e ↦
-            let (v, a, e) = then-some (after opening t) _ _ e in
-            let ((p, w), b, e) = then-some (readPath n v) _ _ e in
-            let ((join, x), c, e) = then-some (readJoin w) _ _ e in
-            let ((q, y), d, e) = then-some (readPath n x) _ _ e in
-            let (z, g, e) = then-some (after closing y) _ _ e in
+            then-use (after opening t) _ _ e λ v a e.
+            then-use (readPath n v) _ _ e λ (p, w) b e.
+            then-use (readJoin w) _ _ e λ (join, x) c e.
+            then-use (readPath n x) _ _ e λ (q, y) d e.
+            then-use (after closing y) _ _ e λ z g e.
             let (bytes, joins, h) = join-some w x join c in
             path-is (join p q) P t z u (join-is join bytes p q t v w x y z joins (after-some opening t v a) (read-path n v w p b) h (read-path n x y q d) (after-some closing y z g)) e
       ]
