@@ -10,9 +10,10 @@ use Rattle.meaning.specs.Value.{moveSquare, testSquare, choiceSquare, se
 use Rattle.meaning.specs.Rule.{words, ruleAt, placed, symbolValue, plain, literal, bodyValue, headValue, holds}
 use Rattle.meaning.specs.Judge.{failsAt, failures, firstFailure, verdict}
 use Rattle.meaning.specs.Translation.{handed, contextIn, edgeRule, joinRules, testRules, moveRules, rulesOf, rulesAt, translation}
-use Rattle.meaning.specs.Refusal.{ofFirst, ground1, ground2, stray, ground3, late, ground4, beyond, ground5, differ, misfit, ground6, ground6-last, ground7, ground8, ground8-cells, grounds9, ground10, isStar, ground11, ground12, badLiteral, badRule, ground13-length, ground13, ground14, recordGrounds, treeGrounds, starGrounds, checkGrounds, expandGrounds, valueGrounds, translateGrounds, judgeGrounds}
-use Rattle.meaning.specs.Service.{expandAnswer, expandAfter, rowBy, rowOf, table, valueAnswer, valueAfter, translateAnswer, translateAfter, judgment, judgeAnswer}
-use Rattle.meaning.specs.Examples.{Starred, Others, Fillings}
+use Rattle.meaning.specs.Refusal.{ofFirst, ground1, ground2, stray, ground3, late, ground4, beyond, ground5, differ, misfit, ground6, ground6-last, ground7, ground8, ground8-cells, grounds9, ground10, isStar, ground11, ground12, badLiteral, badRule, ground13-length, ground13, ground14, ground14-text, isBack, ground18, ground19, recordGrounds, treeGrounds, starGrounds, checkGrounds, expandGrounds, valueGrounds, translateGrounds, judgeGrounds, writeGrounds, readGrounds}
+use Rattle.meaning.specs.Service.{expandAnswer, expandAfter, rowBy, rowOf, table, valueAnswer, valueAfter, translateAnswer, translateAfter, judgment, judgeAnswer, writeAnswer, writeAfter, readAnswer, readAfter}
+use Rattle.meaning.specs.Text.{decimalIn, decimal, modeSign, moveSign, spell, spellPath, isAhead, then, else, after, sign, digit, number, twoDigits, oneDigit, readNumber, readAtom, readMode, readJoin, readForm, readPath, whole, read, isRead, orFalse, formIn}
+use Rattle.meaning.specs.Examples.{Starred, Others, Fillings, Texts}
 
 -- Every definition that an example runs through.
 unfoldable pub open-all : Unit {0}
@@ -57,4 +58,38 @@ others =
 
 pub filled : Fillings
 unfolding open-all
-filled = record { f = refl; f-short = refl; h = refl; h-short = refl; j = refl; next = refl; next-short = refl; weak-next = refl }
+filled =
+    record { f = refl; f-short = refl; h = refl; h-short = refl; j = refl; next = refl; next-short = refl; weak-next = refl }
+
+-- And those of text.
+unfoldable open-text : Unit {0}
+unfolding open-all ground14-text isBack ground18 ground19 writeGrounds readGrounds writeAnswer writeAfter readAnswer readAfter decimalIn decimal modeSign moveSign spell spellPath isAhead then else after sign digit number twoDigits oneDigit readNumber readAtom readMode readJoin readForm readPath whole read isRead orFalse formIn
+open-text = tt
+
+pub texts : Texts
+unfolding open-text
+texts =
+    record {
+      a = record { wrote = refl; text = refl; took = refl; records = refl };
+      c = record { wrote = refl; text = refl; took = refl; records = refl };
+      d = record { wrote = refl; text = refl; took = refl; records = refl };
+      g = record { wrote = refl; text = refl; took = refl; records = refl };
+      f-unwritten = refl;
+      blank = refl;
+      leading-zero = refl;
+      no-atom = refl;
+      capital = refl;
+      half-sign = refl;
+      missing-bracket = refl;
+      spare-bracket = refl;
+      sign-alone = refl;
+      text-after = refl;
+      path-alone = refl;
+      nothing = refl;
+      no-character = refl;
+      atoms-first = refl;
+      length-second = refl;
+      form-third = refl;
+      atom-then = refl;
+      room-last = refl;
+    }

@@ -6,6 +6,9 @@
 --   Starred                     the examples that the document marks to be proved
 --   Others                      example N, and the printed translation of ⟨step⟩p
 --   Fillings                      the judge over traces filled with labels, right ones and wrong ones
+--   Texted s A t                the records s are written as the text t, and t is read as them
+--   Unread A t number           reading t is refused with this number
+--   Texts                       formulas as text
 use Prim.Native.Nat.{ℕ, pred, _+_, _*_}
 use mathlib.Core.Path.{_≡_}
 use mathlib.Core.Bool.{false}
@@ -14,7 +17,8 @@ use lib.ListN.{length, drop, replicate}
 use Rattle.meaning.specs.Record.{count, Kind, diamond, box, Way, Shorthand, recordBytes}
 use Rattle.meaning.specs.Rule.{ruleSize, words}
 use Rattle.meaning.specs.Translation.{otherRules}
-use Rattle.meaning.specs.Service.{Counted, Judged, judged, judgeAnswer, expandAnswer, expandAfter, valueAnswer, valueAfter, translateAnswer, translateAfter}
+use Rattle.meaning.specs.Service.{Counted, Judged, judged, judgeAnswer, expandAnswer, expandAfter, valueAnswer, valueAfter, translateAnswer, translateAfter, writeAnswer, writeAfter, readAnswer, readAfter}
+use Rattle.meaning.specs.Text.{ascii, mostText}
 
 -- ---- what an example says; the lent buffers hold 7 before
 abbrev counted : ℕ → ℕ → Counted
@@ -163,3 +167,41 @@ pub record Fillings : Type 0 where
   pub next : Says nextP 1 2 (0 ∷ 2 ∷ 0 ∷ 2 ∷ 2 ∷ 0 ∷ 2 ∷ 0 ∷ []) yes
   pub next-short : Says nextP 1 2 (0 ∷ 0 ∷ 0 ∷ 0 ∷ 2 ∷ 0 ∷ 2 ∷ 0 ∷ []) (no 1 1)
   pub weak-next : Says weakNextP 1 2 (0 ∷ 2 ∷ 0 ∷ 2 ∷ 2 ∷ 2 ∷ 2 ∷ 2 ∷ []) yes
+
+-- ---- text
+pub record Texted (s : List ℕ) (A : ℕ) (t : List ℕ) : Type 0 where
+  pub wrote : writeAnswer s A (length t) ≡ counted 0 (length t)
+  pub text : writeAfter s A (room (length t)) ≡ t
+  pub took : readAnswer t A (length s) ≡ counted 0 (count s)
+  pub records : readAfter t A (room (length s)) ≡ s
+
+abbrev pub Unread : ℕ → List ℕ → ℕ → Type 0
+Unread A t number = readAnswer t A 0 ≡ counted number 0
+
+pub record Texts : Type 0 where
+  pub a : Texted until 2 (ascii "(*(?p0;&t).>?p1)")
+  pub c : Texted everySecond 1 (ascii "(*(&t;&t).>*p0)")
+  pub d : Texted standing 2 (ascii "(*?p0.>?p1)")
+  pub g : Texted final 0 (ascii "(&t.>*#false)")
+  -- Example F has a back step.
+  pub f-unwritten : writeAnswer onceP 1 0 ≡ counted 18 0
+  -- A blank, a leading zero, an atom that there isn't, a capital, half a sign.
+  pub blank : Unread 32 (ascii "(&t.>? p1)") 19
+  pub leading-zero : Unread 32 (ascii "p00") 19
+  pub no-atom : Unread 32 (ascii "p32") 19
+  pub capital : Unread 32 (ascii "P1") 19
+  pub half-sign : Unread 32 (ascii "#tru") 19
+  -- A bracket missing, one too many, text after the formula, a path alone, nothing, a byte that is no character.
+  pub missing-bracket : Unread 32 (ascii "(&t.>?p1") 19
+  pub spare-bracket : Unread 32 (ascii "(&t.>?p1))") 19
+  pub sign-alone : Unread 32 (ascii ".>") 19
+  pub text-after : Unread 32 (ascii "p1p2") 19
+  pub path-alone : Unread 32 (ascii "&t") 19
+  pub nothing : Unread 32 [] 19
+  pub no-character : Unread 32 (200 ∷ []) 19
+  -- The number of atoms, and the length, come first; an atom too high comes after the form, and the room last.
+  pub atoms-first : Unread 33 (ascii "p00") 8
+  pub length-second : Unread 32 (replicate (mostText + 1) 40) 14
+  pub form-third : Unread 1 (ascii "(&t.>?p1") 19
+  pub atom-then : Unread 31 (ascii "p31") 5
+  pub room-last : Unread 32 (ascii "p31") 10
