@@ -194,4 +194,4 @@ module _ (e : List ℕ) where
     path-onward (Path.star p) n h at = single Kind.star n (pathSize p) _ 0 (pathFrom p n) refl (path-length p n) (path-onward p n h (at-first (pathFrom p n) _ at)) at
 
 pub records-onward : (F : Form) → forward F ≡ true → (r : ℕ) → r < formSize F → isBack (kindAt (postorder F) r) ≡ false
-records-onward F h r l = form-onward (postorder F) F 0 h (at-start (postorder F)) r zero-le l
+records-onward F h r l = form-onward (postorder F) F 0 h (at-start (postorder F)) r zero-le (omega arith)

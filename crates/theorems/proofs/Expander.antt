@@ -62,10 +62,10 @@ module _ (ℓ : Language) (F : Form) (A : ℕ) (low : formAtoms F ≤ A) where
   abbrev e : List ℕ
   e = postorder F
 
-  written-whole : length e ≡ recordSize * formSize F
+  pub written-whole : length e ≡ recordSize * formSize F
   written-whole = form-part ℓ e A F 0 low .whole
 
-  written-count : count e ≡ formSize F
+  pub written-count : count e ≡ formSize F
   written-count = omega (arith, written-whole)
 
   written-block : Block ℓ e A 0 (count e) Sort.formula (Tree.formula F)
@@ -74,7 +74,7 @@ module _ (ℓ : Language) (F : Form) (A : ℕ) (low : formAtoms F ≤ A) where
       rw start at (form-part ℓ e A F 0 low .block (at-start e))
 
   -- They are well formed, and their tree is the formula.
-  written-formed : A ≤ mostAtoms → formSize F ≤ mostRecords → WellFormed ℓ e A
+  pub written-formed : A ≤ mostAtoms → formSize F ≤ mostRecords → WellFormed ℓ e A
   written-formed atoms few =
       let sound = written-block .forest .sound in
       record {
@@ -90,7 +90,7 @@ module _ (ℓ : Language) (F : Form) (A : ℕ) (low : formAtoms F ≤ A) where
         once = block-once ℓ e A written-block;
       }
 
-  written-tree : formAt e (pred (count e)) ≡ F
+  pub written-tree : formAt e (pred (count e)) ≡ F
   unfolding asForm
   written-tree = ap asForm (written-block .tree)
 

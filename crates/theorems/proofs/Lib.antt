@@ -8,4 +8,5 @@ pub mod Why
 pub mod Agreement
 pub mod Paper
 pub mod Expander
+pub mod Text
 pub mod Demands

@@ -6,3 +6,4 @@ pub mod Demand3
 pub mod Why
 pub mod Paper
 pub mod Expander
+pub mod Text
