@@ -44,7 +44,7 @@ fn expand_formula(records: &[u8], out: &mut [u8]) -> Counted
     if refusal != refusals::ACCEPTED {
         return Counted { refusal, count: 0 };
     }
-    write::copy(&buffer, layout::RECORD_SIZE * n, out);
+    copying::copy(&buffer[..], layout::RECORD_SIZE * n, out);
     Counted {
         refusal,
         count: n as u64,

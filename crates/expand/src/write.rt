@@ -63,15 +63,3 @@ fn write_step(
     );
     n + 1
 }
-
-// Copies a buffer's first bytes, as many as `size` says, to the start of the output.
-pub fn copy(buffer: &[u8; layout::MOST_BYTES], size: usize, out: &mut [u8])
-    requires { ⌜ (length (now buffer) ≡ recordSize * mostRecords) × (size ≤ length (now buffer)) × (size ≤ length (now out)) ⌝ }
-    ensures { λ _. ⌜ now (out .exit) ≡ sets (now (out .entry)) 0 (take size (now (buffer .entry))) ⌝ }
-{
-    let mut i: usize = 0;
-    while i < size {
-        out[i] = buffer[i];
-        i += 1;
-    }
-}

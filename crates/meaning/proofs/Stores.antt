@@ -1,11 +1,13 @@
 -- Runs of stores. What is stored right after a run makes one run with it, and a run from the first place on is what is
 -- written.
-use Prim.Native.Nat.{ℕ, suc, _+_, _≤_}
+use Prim.Native.Nat.{ℕ, suc, _+_, _≤_, _<_}
 use mathlib.Core.Path.{_≡_}
 use mathlib.Core.List.{List, [], _∷_, _++_}
 use native.Mathlib.Nat.{zero-add, add-zero, add-suc, suc-add}
-use lib.ListN.{length, set}
-use lib.Seq.{sets, sets-eq}
+use native.Mathlib.Numerals.{add-one}
+use native.Mathlib.Omega.{arith}
+use lib.ListN.{length, set, getD, take}
+use lib.Seq.{sets, sets-eq, length-take-le, take-suc}
 use Rattle.meaning.specs.Run.{written}
 
 pub sets-append : (xs ys l : List ℕ) (i : ℕ) → sets (sets l i xs) (i + length xs) ys ≡ sets l i (xs ++ ys)
@@ -15,3 +17,10 @@ sets-append (x ∷ xs) ys l i = rw (add-suc, ← suc-add) (sets-append xs ys (se
 pub sets-written : (xs l : List ℕ) → length xs ≤ length l → sets l 0 xs ≡ written xs l
 unfolding written
 sets-written xs l h = rw zero-add at (sets-eq xs l 0 (rw zero-add h))
+
+-- Bytes that are copied one after the other: the next one is stored after those that were.
+pub sets-more : (xs l : List ℕ) (at i : ℕ) → i < length xs
+    → set (sets l at (take i xs)) (at + i) (getD xs i 0) ≡ sets l at (take (i + 1) xs)
+sets-more xs l at i h =
+    rw (add-one, take-suc xs i 0)
+    (rw (length-take-le i xs (omega arith)) at (sets-append (take i xs) (getD xs i 0 ∷ []) l at))

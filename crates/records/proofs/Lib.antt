@@ -2,4 +2,3 @@
 pub mod Ranges
 pub mod Numbers
 pub mod Held
-pub mod Storing

@@ -5,7 +5,7 @@ use native.Mathlib.Omega.{arith}
 use lib.ListN.{length, take}
 use borrow.Author.Needs.{needs}
 use lib.Seq.{take-length, sets, length-sets}
-use Rattle.records.proofs.Storing.{sets-more}
+use Rattle.meaning.proofs.Stores.{sets-more}
 use Rattle.listing.proofs.put_bytes.Statement.{statement}
 use Rattle.listing.proofs.put_bytes.Tie as tie
 

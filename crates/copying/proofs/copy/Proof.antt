@@ -1,4 +1,4 @@
--- `write::copy` meets its contract: the bytes passed are stored from the output's start on, and each one more after them.
+-- `copy` meets its contract: the bytes passed are stored from the output's start on, and each one more after them.
 use Prim.Native.Nat.{_-_, _≤_}
 use mathlib.Core.Path.{_≡_, ap}
 use native.Mathlib.Nat.{zero-add}
@@ -6,9 +6,9 @@ use native.Mathlib.Omega.{arith}
 use lib.ListN.{length, take}
 use lib.Seq.{sets, length-sets}
 use borrow.Author.Needs.{needs}
-use Rattle.records.proofs.Storing.{sets-more}
-use Rattle.expand.proofs.write.copy.Statement.{statement}
-use Rattle.expand.proofs.write.copy.Tie as tie
+use Rattle.meaning.proofs.Stores.{sets-more}
+use Rattle.copying.proofs.copy.Statement.{statement}
+use Rattle.copying.proofs.copy.Tie as tie
 
 abbrev Inv-loop : tie.InvT-loop
 Inv-loop buffer size out₀ i₀ out i = (i ≤ size) × (out ≡ sets out₀ 0 (take i buffer))
