@@ -4,7 +4,7 @@ use Prim.Native.Nat.{ℕ, zero, suc, pred, _+_, _*_, _<_, _≤_, zero-le}
 use mathlib.Core.Path.{_≡_, refl, sym, ap, _∙_}
 use mathlib.Core.Bool.{Bool, true, false, not, _&&_, true≢false}
 use mathlib.Core.Logic.{_↔_, inl, inr}
-use mathlib.Core.List.{List, [], _∷_, _++_}
+use mathlib.Core.List.{List, [], _∷_, _++_, append-assoc}
 use mathlib.Core.Option.{Option, none, some}
 use native.Mathlib.Nat.{le-refl}
 use native.Mathlib.Omega.{arith}
@@ -14,7 +14,7 @@ use Rattle.meaning.specs.Record.{core, recordSize, mostRecords, count, k
 use Rattle.meaning.specs.Formula.{Form, Path, formAtoms, pathAtoms}
 use Rattle.meaning.specs.Tree.{Tree, asForm, asPath, nodeOf, treeAt, formAt, formSize, pathSize, formFrom, pathFrom, postorder}
 use Rattle.meaning.specs.Text.{spell, isAhead, forward, forwardPath, mostText, Spells, read, isRead, formIn}
-use Rattle.meaning.specs.Refusal.{firstOf, mostAtoms, isBack, ground5, ground8, ground10, ground14, ground14-text, ground18, ground19, checkGrounds, writeGrounds, readGrounds, treeGrounds, formGrounds, ground1}
+use Rattle.meaning.specs.Refusal.{Ground, mostAtoms, isBack, ground5, ground8, ground10, ground14, ground14-text, ground18, ground19, checkGrounds, writeGrounds, readGrounds, treeGrounds, formGrounds, ground1}
 use Rattle.meaning.specs.WellFormed.{Fits, WellFormed}
 use Rattle.meaning.proofs.Fails.{tests, and-holds}
 use Rattle.meaning.proofs.Bounds.{le-or-lt}
@@ -48,41 +48,44 @@ write-clear s A room = simp (clear-append, each-clears, clear-well-formed, tests
   λ w. (w .formed, ((λ r h. (w .onward r h, tt)), (omega (arith, w .enough), tt))),
 )
 
+pub form-clear : (t : List ℕ) (A : ℕ)
+    → Clear (formGrounds t A) ↔ ((A ≤ mostAtoms) × (length t ≤ mostText) × (isRead (read t) ≡ true) × (formSize (formIn t) ≤ mostRecords))
+unfolding ground8 ground14-text ground19 ground14
+form-clear t A = simp tests (
+  λ (a, (b, (d, (e, _)))). (omega arith, omega arith, d, omega arith),
+  λ (a, b, d, e). (omega arith, (omega arith, (d, (omega arith, tt)))),
+)
+
 pub read-clear : (t : List ℕ) (A room : ℕ) → Clear (readGrounds t A room) ↔ Takes t A room
-unfolding readGrounds ground8 ground14-text ground19 ground14 ground10
-read-clear t A room = simp (clear-append, each-clears, tests) (
-  λ ((a, (b, (d, (e, _)))), (f, (g, _))). record { atoms = omega arith; short = omega arith; formed = d; few = omega arith; known-atoms = λ r h. f r h .0; enough = omega arith },
-  λ w. ((omega (arith, w .atoms), (omega (arith, w .short), (w .formed, (omega (arith, w .few), tt)))), ((λ r h. (w .known-atoms r h, tt)), (omega (arith, w .enough), tt))),
+unfolding readGrounds ground10
+read-clear t A room = simp (clear-append, each-clears, form-clear, tests) (
+  λ ((a, b, d, e), (f, (g, _))). record { atoms = a; short = b; formed = d; few = e; known-atoms = λ r h. f r h .0; enough = omega arith },
+  λ w. ((w .atoms, w .short, w .formed, w .few), ((λ r h. (w .known-atoms r h, tt)), (omega (arith, w .enough), tt))),
 )
 
 -- Every ground has a number above 0.
+pub back-numbered : (s : List ℕ) (A : ℕ) → Numbered (checkGrounds s A ++ each (count s) (λ r. ground18 s r ∷ []))
+unfolding checkGrounds ground1 ground8 ground18
+back-numbered s A =
+    (omega arith, (omega arith, numbered-append (treeGrounds core s A) _ (tree-numbered core s A) (numbered-each _ _ (λ r. omega arith))))
+
 pub write-numbered : (s : List ℕ) (A room : ℕ) → Numbered (writeGrounds s A room)
-unfolding writeGrounds checkGrounds ground1 ground8 ground18 ground10
-write-numbered s A room = (
-  omega arith,
-  (
-    omega arith,
-    numbered-append (treeGrounds core s A) _ (tree-numbered core s A)
-        (numbered-append (each (count s) (λ r. ground18 s r ∷ [])) _ (numbered-each _ _ (λ r. omega arith)) (omega arith)),
-  ),
-)
+unfolding writeGrounds ground10
+write-numbered s A room =
+    let backs = each (count s) (λ r. ground18 s r ∷ []) in
+    rw append-assoc at (numbered-append (checkGrounds s A ++ backs) (ground10 (length (spell (formAt s (pred (count s))))) room ∷ []) (back-numbered s A) (omega arith))
+
+pub form-numbered : (t : List ℕ) (A : ℕ) → Numbered (formGrounds t A)
+unfolding ground8 ground14-text ground19 ground14
+form-numbered t A = (omega arith, (omega arith, (omega arith, (omega arith, tt))))
 
 pub read-numbered : (t : List ℕ) (A room : ℕ) → Numbered (readGrounds t A room)
-unfolding readGrounds ground5 ground8 ground14-text ground19 ground14 ground10
-read-numbered t A room = (
-  omega arith,
-  (
-    omega arith,
-    (
-      omega arith,
-      (
-        omega arith,
-        numbered-append (each (formSize (formIn t)) (λ r. ground5 (postorder (formIn t)) A r ∷ [])) _
-            (numbered-each _ _ (λ r. omega arith)) (omega arith),
-      ),
-    ),
-  ),
-)
+unfolding readGrounds ground5 ground10
+read-numbered t A room =
+    let atoms : ℕ → List Ground = λ r. ground5 (postorder (formIn t)) A r ∷ [] in
+    let size = formSize (formIn t) in
+    numbered-append (formGrounds t A) (each size atoms ++ (ground10 (recordSize * size) room ∷ [])) (form-numbered t A)
+    (numbered-append (each size atoms) (ground10 (recordSize * size) room ∷ []) (numbered-each atoms size (λ r. omega arith)) (omega arith))
 
 -- ---- no back step, in records and in their tree
 -- A tree of either sort.

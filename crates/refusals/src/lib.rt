@@ -29,7 +29,11 @@ pub const WRONG_RULES: u8 = 13;
 
 pub const TOO_LONG: u8 = 14;
 
-// A refusal, or 0 and how many records or rules were written.
+pub const NO_SIGN: u8 = 18;
+
+pub const NOT_THE_FORM: u8 = 19;
+
+// A refusal, or 0 and how many records, rules or bytes were written.
 #[repr(C)]
 pub struct Counted {
     pub refusal: u8,

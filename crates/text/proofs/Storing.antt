@@ -1,0 +1,151 @@
+-- The answers of both services. Their grounds are those of what they are given, and after these those of what comes out; what comes out is
+-- in a buffer, from which it is copied where there is room.
+use Prim.Native.Nat.{ℕ, zero, suc, pred, _+_, _*_, _<_, _≤_}
+use mathlib.Core.Path.{_≡_, refl, sym, ap, _∙_}
+use mathlib.Core.Bool.{true, false}
+use mathlib.Core.List.{List, [], _∷_, _++_, append-assoc}
+use native.Mathlib.Nat.{le-refl}
+use native.Mathlib.Omega.{arith}
+use lib.ListN.{length, getD, take, drop, List·getD-append}
+use lib.Seq.{sets}
+use borrow.Author.Tests.{lt-ltb, le-ltb, eq-eqb, ne-eqb}
+use Rattle.meaning.specs.Run.{each, written}
+use Rattle.meaning.specs.Record.{core, recordSize, mostRecords, count, kindAt, fieldA, fieldB}
+use Rattle.meaning.specs.Formula.{Form, formAtoms}
+use Rattle.meaning.specs.Tree.{formAt, formSize, postorder}
+use Rattle.meaning.specs.Text.{spell, formIn}
+use Rattle.meaning.specs.Refusal.{Ground, ofFirst, firstOf, ground5, ground10, checkGrounds, formGrounds, writeGrounds, readGrounds}
+use Rattle.meaning.specs.Service.{accepted, writeAnswer, writeAfter, readAnswer, readAfter}
+use Rattle.meaning.proofs.First.{Clear, clear-skip, found-stop}
+use Rattle.meaning.proofs.Stores.{sets-written, front-copied}
+use Rattle.meaning.proofs.Postorder.{form-part}
+use Rattle.text.specs.Texting.{backGrounds, atomGrounds, recordsGrounds, Sized, Came}
+
+-- ---- grounds of what is given, and of what comes out
+module _ (gs ks : List Ground) {x : ℕ} where
+  pub refused-first : x ≡ firstOf gs → (x ≡ 0 → ⊥) → x ≡ firstOf (gs ++ ks)
+  refused-first e n = e ∙ sym (found-stop gs ks (λ z. n (e ∙ z)))
+
+  pub refused-after : Clear gs → x ≡ firstOf ks → x ≡ firstOf (gs ++ ks)
+  refused-after c e = e ∙ sym (clear-skip gs ks c)
+
+-- ---- bytes that come out
+pub no-room : (n room : ℕ) → room < n → 10 ≡ firstOf (ground10 n room ∷ [])
+unfolding ofFirst ground10
+no-room n room l = rw (lt-ltb room n l)
+
+pub has-room : (n room : ℕ) → n ≤ room → 0 ≡ firstOf (ground10 n room ∷ [])
+unfolding ofFirst ground10
+has-room n room l = rw (le-ltb room n l)
+
+pub sized-refused : (new out : List ℕ) → length out < length new → Sized new (length new) out 10 0 out
+sized-refused new out l = record { sized = no-room (length new) (length out) l; counted = refl; stored = refl }
+
+pub sized-stored : (new old out : List ℕ) (n : ℕ) (after : List ℕ) → n ≡ length new → length new ≤ length old → n ≤ length out
+    → after ≡ sets out 0 (take n (sets old 0 new)) → Sized new (length new) out 0 n after
+sized-stored new old out n after e l room a = record {
+  sized = has-room (length new) (length out) (omega arith);
+  counted = e;
+  stored = a ∙ rw e (front-copied new old out l (omega arith));
+}
+
+-- ---- records that come out
+-- A buffer is read where something was stored from its start on.
+front-read : (e l : List ℕ) → length e ≤ length l → (i : ℕ) → i < length e → getD (sets l 0 e) i 0 ≡ getD e i 0
+unfolding written
+front-read e l h i b = rw (sets-written e l h) (List·getD-append e (drop (length e) l) 0 i b)
+
+module _ (F : Form) (l : List ℕ) (few : formSize F ≤ mostRecords) (size : length l ≡ recordSize * mostRecords) where
+  abbrev e : List ℕ
+  e = postorder F
+
+  pub records-long : length e ≡ recordSize * formSize F
+  records-long = form-part core e (formAtoms F) F 0 (le-refl _) .whole
+
+  abbrev buffer : List ℕ
+  buffer = sets l 0 e
+
+  same-atoms : (A r : ℕ) → r < formSize F → ground5 buffer A r ≡ ground5 e A r
+  unfolding ground5
+  same-atoms A r b =
+      let at : (i : ℕ) → i < recordSize * r + recordSize → getD buffer i 0 ≡ getD e i 0 = λ i h.
+          front-read e l (omega (arith, records-long)) i (omega (arith, records-long)) in
+      rw (at (recordSize * r) (omega arith), at (recordSize * r + 2) (omega arith), at (recordSize * r + 2 + 1) (omega arith),
+      at (recordSize * r + 4) (omega arith), at (recordSize * r + 4 + 1) (omega arith))
+
+  same-grounds : (A n : ℕ) → n ≤ formSize F → atomGrounds buffer n A ≡ atomGrounds e n A
+  unfolding each
+  same-grounds A zero h = refl
+  same-grounds A (suc n) h = rw (same-grounds A n (omega arith), same-atoms A n h)
+
+  module _ (A : ℕ) (out : List ℕ) (x : ℕ) (test : x ≡ firstOf (recordsGrounds buffer (formSize F) A (length out))) where
+    tested : x ≡ firstOf (recordsGrounds e (formSize F) A (length out))
+    tested = test ∙ rw (same-grounds A (formSize F) (le-refl _))
+
+    pub records-refused : (x ≡ 0 → ⊥) → Came F A out x 0 out
+    records-refused d = let other = ne-eqb x 0 d in record { refused = tested; counted = rw other; stored = rw other }
+
+    module _ (z : x ≡ 0) where
+      pub records-room : recordSize * formSize F ≤ length out
+      unfolding ground10
+      records-room = ?
+
+      pub records-stored : {after : List ℕ} → after ≡ sets out 0 (take (recordSize * formSize F) buffer) → Came F A out x (formSize F) after
+      records-stored a =
+          let given = eq-eqb x 0 z in
+          let copied = rw records-long at (front-copied e l out (omega (arith, records-long)) (omega (arith, records-long, records-room))) in
+          record { refused = tested; counted = rw given; stored = rw given (a ∙ copied) }
+
+-- ---- the whole answers
+-- Of any service that gives a number and writes bytes, or refuses.
+module _ (gs ks : List Ground) (size : ℕ) (new out : List ℕ) (x : ℕ) where
+  abbrev Answers : ℕ → List ℕ → Type 0
+  Answers n after =
+      let refusal = firstOf (gs ++ ks) in
+      (x ≡ refusal) × ((n ≡ accepted refusal size 0) × (after ≡ accepted refusal (written new out) out))
+
+  answers-refused : x ≡ firstOf gs → (x ≡ 0 → ⊥) → Answers 0 out
+  answers-refused e d =
+      let all = refused-first gs ks e d in
+      let other = ne-eqb x 0 d in
+      (all, (rw (← all, other), rw (← all, other)))
+
+  answers-passed : (n : ℕ) (after : List ℕ) → Clear gs → x ≡ firstOf ks → n ≡ accepted x size 0 → after ≡ accepted x (written new out) out
+      → Answers n after
+  answers-passed n after c e size bytes = let all = refused-after gs ks c e in (all, (rw all at size, rw all at bytes))
+
+module _ (s : List ℕ) (A : ℕ) (out : List ℕ) (x : ℕ) where
+  abbrev Wrote : ℕ → List ℕ → Type 0
+  Wrote n after =
+      (x ≡ writeAnswer s A (length out) .refusal) × ((n ≡ writeAnswer s A (length out) .count) × (after ≡ writeAfter s A out))
+
+  abbrev text : List ℕ
+  text = spell (formAt s (pred (count s)))
+
+  abbrev given : List Ground
+  given = checkGrounds s A ++ backGrounds s
+
+  pub write-refused : x ≡ firstOf given → (x ≡ 0 → ⊥) → Wrote 0 out
+  unfolding writeAnswer writeAfter writeGrounds
+  write-refused e d = rw append-assoc at (answers-refused given (ground10 (length text) (length out) ∷ []) (length text) text out x e d)
+
+  pub write-passed : (n : ℕ) (after : List ℕ) → Clear given → Sized text (length text) out x n after → Wrote n after
+  unfolding writeAnswer writeAfter writeGrounds
+  write-passed n after c a =
+      rw append-assoc at (answers-passed given (ground10 (length text) (length out) ∷ []) (length text) text out x n after c (a .sized) (a .counted) (a .stored))
+
+module _ (t : List ℕ) (A : ℕ) (out : List ℕ) (x : ℕ) where
+  abbrev Read : ℕ → List ℕ → Type 0
+  Read n after = (x ≡ readAnswer t A (length out) .refusal) × ((n ≡ readAnswer t A (length out) .count) × (after ≡ readAfter t A out))
+
+  abbrev rest : List Ground
+  rest = recordsGrounds (postorder (formIn t)) (formSize (formIn t)) A (length out)
+
+  pub read-refused : x ≡ firstOf (formGrounds t A) → (x ≡ 0 → ⊥) → Read 0 out
+  unfolding readAnswer readAfter readGrounds
+  read-refused e d = answers-refused (formGrounds t A) rest (formSize (formIn t)) (postorder (formIn t)) out x e d
+
+  pub read-passed : (n : ℕ) (after : List ℕ) → Clear (formGrounds t A) → Came (formIn t) A out x n after → Read n after
+  unfolding readAnswer readAfter readGrounds
+  read-passed n after c a =
+      answers-passed (formGrounds t A) rest (formSize (formIn t)) (postorder (formIn t)) out x n after c (a .refused) (a .counted) (a .stored)

@@ -1,0 +1,43 @@
+-- What the parts of writing and reading text ask and leave.
+--   backGrounds s                    18, of each record
+--   atomGrounds e n A                5, of the first n records of e
+--   recordsGrounds e n A room        the same, and 10
+--   Sized new size out x c after     the answer for bytes `new`: 10 or none, their size, and the output `after`
+--   Readable t                       t is the text of a formula that is not too long
+--   Came F A out x c after           the answer for the text of F: 5, 10 or none, the number of records, and the output `after`
+use Prim.Native.Nat.{ℕ, _*_, _≤_}
+use mathlib.Core.Path.{_≡_}
+use mathlib.Core.Bool.{true}
+use mathlib.Core.List.{List, [], _∷_, _++_}
+use lib.ListN.{length}
+use Rattle.meaning.specs.Run.{each, written}
+use Rattle.meaning.specs.Record.{recordSize, mostRecords, count}
+use Rattle.meaning.specs.Formula.{Form}
+use Rattle.meaning.specs.Tree.{formSize, postorder}
+use Rattle.meaning.specs.Text.{mostText, read, isRead, formIn}
+use Rattle.meaning.specs.Refusal.{Ground, firstOf, ground5, ground10, ground18}
+use Rattle.meaning.specs.Service.{accepted}
+
+abbrev pub backGrounds : List ℕ → List Ground
+backGrounds s = each (count s) (λ r. ground18 s r ∷ [])
+
+abbrev pub atomGrounds : List ℕ → ℕ → ℕ → List Ground
+atomGrounds e n A = each n (λ r. ground5 e A r ∷ [])
+
+abbrev pub recordsGrounds : List ℕ → ℕ → ℕ → ℕ → List Ground
+recordsGrounds e n A room = atomGrounds e n A ++ (ground10 (recordSize * n) room ∷ [])
+
+pub record Sized (new : List ℕ) (size : ℕ) (out : List ℕ) (refusal n : ℕ) (after : List ℕ) : Type 0 where
+  pub sized : refusal ≡ firstOf (ground10 size (length out) ∷ [])
+  pub counted : n ≡ accepted refusal size 0
+  pub stored : after ≡ accepted refusal (written new out) out
+
+pub record Readable (t : List ℕ) : Type 0 where
+  pub short : length t ≤ mostText
+  pub formed : isRead (read t) ≡ true
+  pub few : formSize (formIn t) ≤ mostRecords
+
+pub record Came (F : Form) (A : ℕ) (out : List ℕ) (refusal n : ℕ) (after : List ℕ) : Type 0 where
+  pub refused : refusal ≡ firstOf (recordsGrounds (postorder F) (formSize F) A (length out))
+  pub counted : n ≡ accepted refusal (formSize F) 0
+  pub stored : after ≡ accepted refusal (written (postorder F) out) out

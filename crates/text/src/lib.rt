@@ -1,0 +1,3 @@
+// Formulas as text: writing records as text, and reading text as records.
+pub mod reading;
+pub mod writing;
