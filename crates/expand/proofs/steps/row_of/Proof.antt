@@ -1,31 +1,15 @@
 -- `steps::row_of` meets its contract: at a kind's number the definition's row computes to the table's, whatever it is, and no other
 -- number is a kind's.
-use Prim.Native.Nat.{ℕ, zero, suc, _+_, _≤_}
 use mathlib.Core.Path.{_≡_, refl}
 use mathlib.Core.Bool.{Bool, true, false}
 use native.Mathlib.Omega.{arith}
 use lib.Dec.{ltb}
 use borrow.Author.Tests.{ltb-true, ltb-false}
 use Rattle.meaning.specs.{Record.numberOf, Record.kinds, Record.kindOf, Shorthand.expansion}
-use Rattle.records.proofs.Ranges.{stretch, onward}
+use Rattle.records.proofs.Ranges.{stretch, onward, Others, others-after, others-before}
 use Rattle.expand.specs.Steps.{formSteps, pathSteps, stepsOf, digits, rowNumber}
 use Rattle.expand.proofs.steps.row_of.Statement.{statement}
 use Rattle.expand.proofs.steps.row_of.Tie as tie
-
--- What the default of a `match` knows: k is none of a stretch of numbers, nor of those before, A. So from the stretch on it is after it.
-Others : Type 0 → ℕ → ℕ → ℕ → Type 0
-Others A k start zero = A
-Others A k start (suc size) = Others A k start size × (k ≡ start + size → ⊥)
-
-others-after : (A : Type 0) (k start size : ℕ) → Others A k start size → start ≤ k → start + size ≤ k
-unfolding Others
-others-after A k start zero none h = omega arith
-others-after A k start (suc size) (none, other) h = omega (arith, others-after A k start size none h)
-
-others-before : (A : Type 0) (k start size : ℕ) → Others A k start size → A
-unfolding Others
-others-before A k start zero none = none
-others-before A k start (suc size) (none, other) = others-before A k start size none
 
 no-kind : tie.Need-returns-28
 unfolding Others kinds stepsOf digits formSteps pathSteps expansion numberOf

@@ -1,0 +1,99 @@
+-- Putting signs and texts one after another. What is put after a text makes one text with it; a sign's lowest byte is its first character,
+-- and the rest of the number has the others.
+use Prim.Native.Nat.{ℕ, zero, suc, _+_, _*_, _/_, _%_, _<_, _≤_}
+use mathlib.Core.Path.{_≡_, refl, sym, ap, _∙_}
+use mathlib.Core.Bool.{Bool, true, _&&_}
+use mathlib.Core.List.{List, [], _∷_, _++_, append-assoc, append-nil}
+use mathlib.Core.Logic.{inl, inr}
+use native.Mathlib.Omega.{arith}
+use native.Mathlib.Nat.{le-refl}
+use lib.ListN.{length, set, length-append}
+use borrow.Author.Tests.{le-leb, lt-leb, ltb-true}
+use lib.Dec.{ltb}
+use Rattle.meaning.proofs.Bounds.{le-or-lt}
+use Rattle.meaning.proofs.Fails.{and-holds}
+use Rattle.meaning.proofs.Stores.{sets-append}
+use Rattle.spelling.specs.Spelling.{byte, bytesIn, signBytes, Put}
+
+-- ---- one after another
+pub put-more : {old t mid u new : List ℕ} {at e f : ℕ} → Put old at t e mid → Put mid e u f new → Put old at (t ++ u) f new
+put-more {old} {t} {u = u} {at = at} p q = record {
+  place = rw length-append (omega (arith, p .place, q .place));
+  stored = q .stored ∙ rw (p .place, p .stored) (sets-append t u old at);
+}
+
+-- ---- the bytes of a sign
+-- It does not matter how many bytes may come, if there may be enough.
+enough : (m k n : ℕ) → n ≤ m → n ≤ k → bytesIn m n ≡ bytesIn k n
+unfolding bytesIn
+enough zero zero n h l = refl
+enough zero (suc k) n h l = rw (le-leb n 1 (omega arith))
+enough (suc m) zero n h l = rw (le-leb n 1 (omega arith))
+enough (suc m) (suc k) n h l = elim (le-or-lt n 1) [
+  | inl e ↦ rw (le-leb n 1 e)
+  | inr e ↦ rw (lt-leb n 1 e, enough m k (n / byte) (omega arith) (omega arith))
+]
+
+pub sign-more : (n : ℕ) → 1 < n → signBytes n ≡ n % byte ∷ signBytes (n / byte)
+unfolding signBytes bytesIn
+sign-more zero h = absurd (omega arith)
+sign-more (suc n) h = rw (lt-leb (suc n) 1 h, enough n (suc n / byte) (suc n / byte) (omega arith) (le-refl _))
+
+pub sign-done : (n : ℕ) → n ≤ 1 → signBytes n ≡ []
+unfolding signBytes bytesIn
+sign-done zero h = refl
+sign-done (suc n) h = rw (le-leb (suc n) 1 h)
+
+-- One byte more.
+pub sign-byte : (b n : ℕ) → b < byte → 0 < n → signBytes (b + byte * n) ≡ b ∷ signBytes n
+sign-byte b n l h =
+    let low : (b + byte * n) % byte ≡ b = omega arith in
+    let high : (b + byte * n) / byte ≡ n = omega arith in
+    rw (sign-more (b + byte * n) (omega arith), low, high)
+
+-- Bytes as a sign's number.
+unfoldable pub digits : List ℕ → ℕ
+digits [] = 1
+digits (b ∷ t) = b + byte * digits t
+
+unfoldable pub areBytes : List ℕ → Bool
+areBytes [] = true
+areBytes (b ∷ t) = ltb b byte && areBytes t
+
+positive : (t : List ℕ) → 0 < digits t
+unfolding digits
+positive [] = omega arith
+positive (b ∷ t) = omega (arith, positive t)
+
+pub sign-digits : (t : List ℕ) → areBytes t ≡ true → signBytes (digits t) ≡ t
+unfolding digits areBytes
+sign-digits [] h = sign-done 1 (omega arith)
+sign-digits (b ∷ t) h =
+    let (low, rest) = and-holds (ltb b byte) (areBytes t) .0 h in
+    sign-byte b (digits t) (ltb-true b byte low) (positive t) ∙ rw (sign-digits t rest)
+
+-- ---- a sign's bytes on the way: some are put, and the rest of the number has the others
+pub record Putting (old : List ℕ) (at sign rest n : ℕ) (out : List ℕ) : Type 0 where
+  pub done : List ℕ
+  pub put : Put old at done n out
+  pub whole : done ++ signBytes rest ≡ signBytes sign
+
+module _ {old : List ℕ} {at sign : ℕ} where
+  pub putting-none : Putting old at sign sign at old
+  putting-none = record { done = []; put = record { place = omega arith; stored = refl }; whole = refl }
+
+  module _ {rest n : ℕ} {out : List ℕ} (p : Putting old at sign rest n out) where
+    pub putting-room : 1 < rest → n < at + length (signBytes sign)
+    putting-room h =
+        let long = simp length-append at (ap length (rw (sign-more rest h) at (p .whole))) in
+        omega (arith, p .put .place, long)
+
+    pub putting-more : 1 < rest → Putting old at sign (rest / byte) (n + 1) (set out n (rest % byte))
+    putting-more h = record {
+      done = p .done ++ (rest % byte ∷ []);
+      put = put-more (p .put) (record { place = refl; stored = refl });
+      whole = rw append-assoc (rw (sign-more rest h) at (p .whole));
+    }
+
+    pub putting-done : rest ≤ 1 → Put old at (signBytes sign) n out
+    putting-done h = rw (← p .whole, sign-done rest h, append-nil) (p .put)

@@ -1,0 +1,69 @@
+-- The text of a record's tree, and signs as numbers: a byte for each character, the first one lowest, and a 1 above the last.
+--   signBytes n           the characters of the sign n
+--   ownSign kind a        the sign of a record of the kind whose field a holds a; a back step has none
+--   textAt s r            the text of record r's tree
+--   wholeText s           that of the formula
+--   Spellable s           s is the records of a formula in core kinds
+--   Spelling s r at       r is one of them, and its text fits from the place `at` on
+--   Put old at t e new    `new` is `old` with t stored from `at` on, and e is the place after t
+use Prim.Native.Nat.{ℕ, zero, suc, pred, _+_, _/_, _%_, _<_, _≤_}
+use mathlib.Core.Path.{_≡_}
+use mathlib.Core.Bool.{true, false, cond}
+use mathlib.Core.List.{List, [], _∷_, _++_}
+use lib.Dec.{leb}
+use lib.ListN.{length}
+use lib.Seq.{sets}
+use Rattle.meaning.specs.Record.{core, count, kindAt, Kind, constant, atom, modal, move, test, choice, sequence, star, shorthand, unknown, Sort, sortOf}
+use Rattle.meaning.specs.Tree.{Tree, asForm, asPath, treeAt, formAt}
+use Rattle.meaning.specs.Text.{falseSign, trueSign, atomSign, decimal, modeSign, moveSign, testSign, choiceSign, sequenceSign, starSign, spell, spellPath, mostText}
+use Rattle.meaning.specs.WellFormed.{WellFormed}
+
+-- ---- signs
+abbrev pub byte : ℕ
+byte = 256
+
+-- At most m bytes; no number n has more than n.
+unfoldable pub bytesIn : ℕ → ℕ → List ℕ
+bytesIn zero n = []
+bytesIn (suc m) n = cond (leb n 1) [] (n % byte ∷ bytesIn m (n / byte))
+
+unfoldable pub signBytes : ℕ → List ℕ
+signBytes n = bytesIn n n
+
+unfoldable pub ownSign : Kind → ℕ → List ℕ
+ownSign (constant false) a = falseSign
+ownSign (constant true) a = trueSign
+ownSign atom a = atomSign ++ decimal a
+ownSign (modal m) a = modeSign m
+ownSign (move w) a = moveSign w
+ownSign test a = testSign
+ownSign choice a = choiceSign
+ownSign sequence a = sequenceSign
+ownSign star a = starSign
+ownSign (shorthand σ) a = []
+ownSign unknown a = []
+
+-- ---- texts
+abbrev pub textOf : Sort → Tree → List ℕ
+textOf Sort.formula t = spell (asForm t)
+textOf Sort.path t = spellPath (asPath t)
+
+abbrev pub textAt : List ℕ → ℕ → List ℕ
+textAt s r = textOf (sortOf (kindAt s r)) (treeAt s r)
+
+abbrev pub wholeText : List ℕ → List ℕ
+wholeText s = spell (formAt s (pred (count s)))
+
+pub record Spellable (s : List ℕ) : Type 0 where
+  pub atoms : ℕ
+  pub formed : WellFormed core s atoms
+
+pub record Spelling (s : List ℕ) (r at : ℕ) : Type 0 where
+  pub whole : Spellable s
+  pub index : r < count s
+  pub room : at + length (textAt s r) ≤ mostText
+
+-- ---- the buffer
+pub record Put (old : List ℕ) (at : ℕ) (t : List ℕ) (e : ℕ) (new : List ℕ) : Type 0 where
+  pub place : e ≡ at + length t
+  pub stored : new ≡ sets old at t
