@@ -10,6 +10,7 @@ use native.Mathlib.Nat.{le-refl}
 use lib.ListN.{length, set, length-append}
 use borrow.Author.Tests.{le-leb, lt-leb, ltb-true}
 use lib.Dec.{ltb}
+use Rattle.meaning.specs.Text.{opening, closing}
 use Rattle.meaning.proofs.Bounds.{le-or-lt}
 use Rattle.meaning.proofs.Fails.{and-holds}
 use Rattle.meaning.proofs.Stores.{sets-append}
@@ -71,6 +72,14 @@ sign-digits [] h = sign-done 1 (omega arith)
 sign-digits (b ∷ t) h =
     let (low, rest) = and-holds (ltb b byte) (areBytes t) .0 h in
     sign-byte b (digits t) (ltb-true b byte low) (positive t) ∙ rw (sign-digits t rest)
+
+pub opening-sign : signBytes 0x01_28 ≡ opening
+unfolding digits areBytes
+opening-sign = sign-digits opening refl
+
+pub closing-sign : signBytes 0x01_29 ≡ closing
+unfolding digits areBytes
+closing-sign = sign-digits closing refl
 
 -- ---- a sign's bytes on the way: some are put, and the rest of the number has the others
 pub record Putting (old : List ℕ) (at sign rest n : ℕ) (out : List ℕ) : Type 0 where

@@ -5,7 +5,6 @@ ghost use mathlib.Core.Path.{_≡_};
 ghost use lib.ListN.{length};
 ghost use lib.Seq.{sets};
 ghost use Rattle.spelling.specs.Spelling.{textAt, wholeText, Spellable, Spelling, Put};
-use records::kind;
 use records::layout;
 
 // No formula's text has more bytes.
@@ -20,8 +19,8 @@ pub fn spell_formula(records: &[u8], buffer: &mut [u8; MOST_TEXT]) -> usize
     spell_record(records, last, buffer, 0)
 }
 
-// Puts the text of record r's tree, and gives the place after it. A part is an earlier record; two parts stand in brackets, with the sign
-// in between, and one stands after the sign.
+// Puts the text of record r's tree, and gives the place after it. A part is an earlier record: one stands after the record's sign, two
+// stand in brackets with the sign in between.
 fn spell_record(records: &[u8], r: usize, buffer: &mut [u8; MOST_TEXT], at: usize) -> usize
     requires { ⌜ Spelling (now records) r at ⌝ }
     ensures { λ e. ⌜ Put (now (buffer .entry)) at (textAt (now (records .entry)) r) e (now (buffer .exit)) ⌝ }
@@ -29,18 +28,16 @@ fn spell_record(records: &[u8], r: usize, buffer: &mut [u8; MOST_TEXT], at: usiz
     let kind = layout::kind_at(records, r);
     let a = layout::field_a(records, r);
     let own = sign::own_sign(kind, a);
-    match kind {
-        kind::DIAMOND | kind::BOX | kind::CHOICE | kind::SEQUENCE => {
-            let first = sign::put_sign(buffer, at, sign::OPENING);
-            let between = spell_record(records, a, buffer, first);
-            let second = sign::put_sign(buffer, between, own);
-            let end = spell_record(records, layout::field_b(records, r), buffer, second);
-            sign::put_sign(buffer, end, sign::CLOSING)
-        }
-        kind::TEST | kind::STAR => {
-            let part = sign::put_sign(buffer, at, own);
-            spell_record(records, a, buffer, part)
-        }
-        _ => sign::put_sign(buffer, at, own),
+    if shapes::use_a(kind) < shapes::FORMULA {
+        return sign::put_sign(buffer, at, own);
     }
+    if shapes::use_b(kind) < shapes::FORMULA {
+        let part = sign::put_sign(buffer, at, own);
+        return spell_record(records, a, buffer, part);
+    }
+    let first = sign::put_sign(buffer, at, sign::OPENING);
+    let between = spell_record(records, a, buffer, first);
+    let second = sign::put_sign(buffer, between, own);
+    let end = spell_record(records, layout::field_b(records, r), buffer, second);
+    sign::put_sign(buffer, end, sign::CLOSING)
 }

@@ -30,16 +30,16 @@ pub fn own_sign(kind: u8, a: usize) -> u64
 {
     match kind {
         kind::FALSE => 0x01_65_73_6C_61_66_23, // #false
-        kind::TRUE => 0x01_65_75_72_74_23,     // #true
+        kind::TRUE => 0x01_65_75_72_74_23, // #true
         kind::ATOM => atom_sign(a as u64),
         kind::DIAMOND => 0x01_3F_3E_2E, // .>?
-        kind::BOX => 0x01_2A_3E_2E,     // .>*
-        kind::STEP => 0x01_74_26,       // &t
-        kind::TEST => 0x01_3F,          // ?
-        kind::CHOICE => 0x01_2B,        // +
-        kind::SEQUENCE => 0x01_3B,      // ;
-        kind::STAR => 0x01_2A,          // *
-        _ => DONE,                      // a back step has none, nor has any other number
+        kind::BOX => 0x01_2A_3E_2E, // .>*
+        kind::STEP => 0x01_74_26, // &t
+        kind::TEST => 0x01_3F, // ?
+        kind::CHOICE => 0x01_2B, // +
+        kind::SEQUENCE => 0x01_3B, // ;
+        kind::STAR => 0x01_2A, // *
+        _ => DONE, // a back step has none, nor has any other number
     }
 }
 
