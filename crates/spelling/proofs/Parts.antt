@@ -1,19 +1,19 @@
 -- A record's text from its parts'. Its fields that are children are its parts, and these are earlier records. With none the text is its
 -- sign; one stands after the sign; two stand in brackets, with the sign in between.
 use Prim.Native.Nat.{ℕ, _+_, _<_, _≤_}
-use mathlib.Core.Path.{_≡_, refl, sym, ap}
+use mathlib.Core.Path.{_≡_, refl, sym}
 use mathlib.Core.Bool.{true, false, true≢false}
 use mathlib.Core.List.{List, _++_}
 use native.Mathlib.Omega.{arith}
 use lib.ListN.{length, length-append}
-use Rattle.meaning.specs.Record.{core, count, kindAt, fieldA, fieldB, known, Sort, sortOf, Use, unused, atomNumber, child, useA, useB, columnsOf}
+use Rattle.meaning.specs.Record.{core, kindByte, kindOf, kindAt, fieldA, fieldB, known, Sort, sortOf, Use, unused, atomNumber, child, useA, useB, columnsOf}
 use Rattle.meaning.specs.Record.{Kind, constant, atom, modal, move, test, choice, sequence, star, shorthand, unknown}
 use Rattle.meaning.specs.Tree.{Tree, asForm, asPath, nodeOf, treeAt}
-use Rattle.meaning.specs.Text.{spell, opening, closing, textAtoms}
-use Rattle.meaning.specs.WellFormed.{WellFormed}
+use Rattle.meaning.specs.Text.{spell, opening, closing, textAtoms, mostText}
 use Rattle.meaning.proofs.Nodes.{tree-of}
 use Rattle.shapes.specs.Uses.{sortCode, useCode}
-use Rattle.spelling.specs.Spelling.{ownSign, textOf, textAt}
+use Rattle.spelling.specs.Spelling.{signBytes, ownSign, textOf, textAt, Spelling}
+use Rattle.spelling.proofs.Putting.{openingNumber, closingNumber, opening-sign, closing-sign}
 
 -- ---- by what the fields hold
 abbrev joined : Use → Use → List ℕ → Tree → Tree → List ℕ
@@ -59,48 +59,62 @@ only-child σ (child Sort.formula) own x y h = absurd (omega arith)
 only-child σ (child Sort.path) own x y h = absurd (omega arith)
 
 -- ---- in a formula
-abbrev pub ownText : List ℕ → ℕ → List ℕ
-ownText s r = ownSign (kindAt s r) (fieldA s r)
+pub atom-low : {s : List ℕ} {r at : ℕ} → Spelling s r at → kindAt s r ≡ atom → fieldA s r < textAtoms
+unfolding columnsOf
+atom-low {s} {r} g e =
+    let w = g .whole .formed in
+    let low : fieldA s r < g .whole .atoms = rw e at (w .first r (g .index)) in
+    omega (arith, w .atoms)
 
-pub record One (s : List ℕ) (r : ℕ) : Type 0 where
-  pub first : fieldA s r < r
-  pub text : textAt s r ≡ ownText s r ++ textAt s (fieldA s r)
+-- A record as it was read, with its sign v.
+pub record Read (s : List ℕ) (r at k a b v : ℕ) : Type 0 where
+  pub asked : Spelling s r at
+  pub kind : k ≡ kindByte s r
+  pub first : a ≡ fieldA s r
+  pub second : b ≡ fieldB s r
+  pub own : signBytes v ≡ ownSign (kindOf k) a
 
-pub record Two (s : List ℕ) (r : ℕ) : Type 0 where
-  pub first : fieldA s r < r
-  pub second : fieldB s r < r
-  pub text : textAt s r ≡ opening ++ (textAt s (fieldA s r) ++ (ownText s r ++ (textAt s (fieldB s r) ++ closing)))
+-- Its parts are earlier, and its text fits.
+pub record One (s : List ℕ) (r at a v : ℕ) : Type 0 where
+  pub first : a < r
+  pub text : textAt s r ≡ signBytes v ++ textAt s a
+  pub room : at + (length (signBytes v) + length (textAt s a)) ≤ mostText
 
--- Their lengths.
-pub one-long : {s : List ℕ} {r : ℕ} → One s r → length (textAt s r) ≡ length (ownText s r) + length (textAt s (fieldA s r))
-one-long p = simp length-append at (ap length (p .text))
+pub record Two (s : List ℕ) (r at a b v : ℕ) : Type 0 where
+  pub first : a < r
+  pub second : b < r
+  pub text : textAt s r ≡ signBytes openingNumber ++ (textAt s a ++ (signBytes v ++ (textAt s b ++ signBytes closingNumber)))
+  pub room : at + (length (signBytes openingNumber) + (length (textAt s a) + (length (signBytes v) + (length (textAt s b) + length (signBytes closingNumber)))))
+      ≤ mostText
 
-pub two-long : {s : List ℕ} {r : ℕ} → Two s r
-    → length (textAt s r) ≡ length (textAt s (fieldA s r)) + length (ownText s r) + length (textAt s (fieldB s r)) + 2
-two-long p = omega (arith, simp length-append at (ap length (p .text)))
+module _ {s : List ℕ} {r at k a b v : ℕ} (g : Read s r at k a b v) where
+  text-of : textAt s r ≡ joined (useA (kindOf k)) (useB (kindOf k)) (signBytes v) (treeAt s a) (treeAt s b)
+  text-of =
+      let w = g .asked .whole .formed in
+      let l = g .asked .index in
+      rw (g .own, g .kind, g .first, g .second, tree-of w r l) (node-text (kindAt s r) _ _ (treeAt s) (w .kinds r l))
 
-module _ {s : List ℕ} {A r : ℕ} (w : WellFormed core s A) (l : r < count s) where
-  pub atom-low : kindAt s r ≡ atom → fieldA s r < textAtoms
-  unfolding columnsOf
-  atom-low e = let low : fieldA s r < A = rw e at (w .first r l) in omega (arith, w .atoms)
-
-  text-of : textAt s r ≡ joined (useA (kindAt s r)) (useB (kindAt s r)) (ownText s r) (treeAt s (fieldA s r)) (treeAt s (fieldB s r))
-  text-of = rw (tree-of w r l) (node-text (kindAt s r) _ _ (treeAt s) (w .kinds r l))
-
-  pub no-part : useCode (useA (kindAt s r)) < 2 → textAt s r ≡ ownText s r
+  pub no-part : useCode (useA (kindOf k)) < 2 → textAt s r ≡ signBytes v
   no-part h = rw (no-child _ _ _ _ _ h) at text-of
 
-  module _ (a : 2 ≤ useCode (useA (kindAt s r))) where
-    pub one-part : useCode (useB (kindAt s r)) < 2 → One s r
-    one-part h =
-        let (σ, e) = is-child _ a in
-        let (m, f) = rw e at (w .first r l) in
-        record { first = m; text = rw f (rw (e, only-child σ _ _ _ _ h) at text-of) }
+  module _ (has : 2 ≤ useCode (useA (kindOf k))) where
+    first-part : (σ : Sort) × (useA (kindOf k) ≡ child σ) × (a < r) × (sortOf (kindAt s a) ≡ σ)
+    first-part =
+        let (σ, e) = is-child _ has in
+        let (m, f) = rw (← g .kind, ← g .first, e) at (g .asked .whole .formed .first r (g .asked .index)) in
+        (σ, e, m, f)
 
-    pub two-parts : 2 ≤ useCode (useB (kindAt s r)) → Two s r
-    two-parts b =
-        let (σ, e) = is-child _ a in
-        let (τ, d) = is-child _ b in
-        let (m, f) = rw e at (w .first r l) in
-        let (n, g) = rw d at (w .second r l) in
-        record { first = m; second = n; text = rw (f, g) (rw (e, d) at text-of) }
+    pub one-part : useCode (useB (kindOf k)) < 2 → One s r at a v
+    one-part h =
+        let (σ, e, m, f) = first-part in
+        let text : textAt s r ≡ signBytes v ++ textAt s a = rw f (rw (e, only-child σ _ _ _ _ h) at text-of) in
+        record { first = m; text = text; room = simp length-append at (rw text at (g .asked .room)) }
+
+    pub two-parts : 2 ≤ useCode (useB (kindOf k)) → Two s r at a b v
+    two-parts h =
+        let (σ, e, m, f) = first-part in
+        let (τ, d) = is-child _ h in
+        let (n, i) = rw (← g .kind, ← g .second, d) at (g .asked .whole .formed .second r (g .asked .index)) in
+        let text : textAt s r ≡ signBytes openingNumber ++ (textAt s a ++ (signBytes v ++ (textAt s b ++ signBytes closingNumber))) =
+        rw (opening-sign, closing-sign, f, i) (rw (e, d) at text-of) in
+        record { first = m; second = n; text = text; room = simp length-append at (rw text at (g .asked .room)) }

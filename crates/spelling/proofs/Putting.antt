@@ -1,7 +1,7 @@
 -- Putting signs and texts one after another. What is put after a text makes one text with it; a sign's lowest byte is its first character,
 -- and the rest of the number has the others.
 use Prim.Native.Nat.{ℕ, zero, suc, _+_, _*_, _/_, _%_, _<_, _≤_}
-use mathlib.Core.Path.{_≡_, refl, sym, ap, _∙_}
+use mathlib.Core.Path.{_≡_, refl, ap, _∙_}
 use mathlib.Core.Bool.{Bool, true, _&&_}
 use mathlib.Core.List.{List, [], _∷_, _++_, append-assoc, append-nil}
 use mathlib.Core.Logic.{inl, inr}
@@ -73,11 +73,17 @@ sign-digits (b ∷ t) h =
     let (low, rest) = and-holds (ltb b byte) (areBytes t) .0 h in
     sign-byte b (digits t) (ltb-true b byte low) (positive t) ∙ rw (sign-digits t rest)
 
-pub opening-sign : signBytes 0x01_28 ≡ opening
+abbrev pub openingNumber : ℕ
+openingNumber = 0x01_28
+
+abbrev pub closingNumber : ℕ
+closingNumber = 0x01_29
+
+pub opening-sign : signBytes openingNumber ≡ opening
 unfolding digits areBytes
 opening-sign = sign-digits opening refl
 
-pub closing-sign : signBytes 0x01_29 ≡ closing
+pub closing-sign : signBytes closingNumber ≡ closing
 unfolding digits areBytes
 closing-sign = sign-digits closing refl
 

@@ -27,6 +27,7 @@ fn spell_record(records: &[u8], r: usize, buffer: &mut [u8; MOST_TEXT], at: usiz
 {
     let kind = layout::kind_at(records, r);
     let a = layout::field_a(records, r);
+    let b = layout::field_b(records, r);
     let own = sign::own_sign(kind, a);
     if shapes::use_a(kind) < shapes::FORMULA {
         return sign::put_sign(buffer, at, own);
@@ -38,6 +39,6 @@ fn spell_record(records: &[u8], r: usize, buffer: &mut [u8; MOST_TEXT], at: usiz
     let first = sign::put_sign(buffer, at, sign::OPENING);
     let between = spell_record(records, a, buffer, first);
     let second = sign::put_sign(buffer, between, own);
-    let end = spell_record(records, layout::field_b(records, r), buffer, second);
+    let end = spell_record(records, b, buffer, second);
     sign::put_sign(buffer, end, sign::CLOSING)
 }
