@@ -45,13 +45,6 @@ unfolding signBytes bytesIn
 sign-done zero h = refl
 sign-done (suc n) h = rw (le-leb (suc n) 1 h)
 
--- One byte more.
-pub sign-byte : (b n : ℕ) → b < byte → 0 < n → signBytes (b + byte * n) ≡ b ∷ signBytes n
-sign-byte b n l h =
-    let low : (b + byte * n) % byte ≡ b = omega arith in
-    let high : (b + byte * n) / byte ≡ n = omega arith in
-    rw (sign-more (b + byte * n) (omega arith), low, high)
-
 -- Bytes as a sign's number.
 unfoldable pub digits : List ℕ → ℕ
 digits [] = 1
@@ -71,7 +64,11 @@ unfolding digits areBytes
 sign-digits [] h = sign-done 1 (omega arith)
 sign-digits (b ∷ t) h =
     let (low, rest) = and-holds (ltb b byte) (areBytes t) .0 h in
-    sign-byte b (digits t) (ltb-true b byte low) (positive t) ∙ rw (sign-digits t rest)
+    let l = ltb-true b byte low in
+    let p = positive t in
+    let first : (b + byte * digits t) % byte ≡ b = omega arith in
+    let others : (b + byte * digits t) / byte ≡ digits t = omega arith in
+    rw (sign-more (b + byte * digits t) (omega arith), first, others, sign-digits t rest)
 
 abbrev pub openingNumber : ℕ
 openingNumber = 0x01_28
