@@ -16,7 +16,7 @@ use Rattle.meaning.specs.WellFormed.{Fits}
 use Rattle.meaning.proofs.Nodes.{tree-of}
 use Rattle.shapes.specs.Uses.{sortCode, useCode}
 use Rattle.spelling.specs.Spelling.{signBytes, ownSign, textOf, textAt, Spelling}
-use Rattle.spelling.proofs.Putting.{openingNumber, closingNumber, opening-sign, closing-sign}
+use Rattle.spelling.proofs.Putting.{digits, areBytes, sign-digits}
 
 -- ---- by what the fields hold
 abbrev fieldText : Use → Tree → List ℕ
@@ -67,6 +67,13 @@ pub record Read (s : List ℕ) (r at k a b v : ℕ) : Type 0 where
   pub second : b ≡ fieldB s r
   pub own : signBytes v ≡ ownSign (kindOf k) a
 
+-- The signs of the brackets.
+abbrev openingNumber : ℕ
+openingNumber = 0x01_28
+
+abbrev closingNumber : ℕ
+closingNumber = 0x01_29
+
 -- Its parts are earlier, and its text fits.
 pub record One (s : List ℕ) (r at a v : ℕ) : Type 0 where
   pub first : a < r
@@ -102,10 +109,11 @@ module _ {s : List ℕ} {r at k a b v : ℕ} (g : Read s r at k a b v) where
         record { first = m; text = text; room = simp length-append at (rw text at (g .asked .room)) }
 
     pub two-parts : 2 ≤ useCode (useB (kindOf k)) → Two s r at a b v
+    unfolding digits areBytes
     two-parts h =
         let (m, e) = first-part in
         let (n, d) = part-of s _ r _ b h (rw (← g .kind, ← g .second) at (g .asked .whole .formed .second r (g .asked .index))) in
         let text : textAt s r ≡ signBytes openingNumber ++ (textAt s a ++ (signBytes v ++ (textAt s b ++ signBytes closingNumber))) =
-        rw (opening-sign, closing-sign)
+        rw (sign-digits opening {n = openingNumber} refl refl, sign-digits closing {n = closingNumber} refl refl)
         (rw (le-ltb (useCode (useA (kindOf k))) 2 has, le-ltb (useCode (useB (kindOf k))) 2 h, e, d) at text-of) in
         record { first = m; second = n; text = text; room = simp length-append at (rw text at (g .asked .room)) }

@@ -10,7 +10,6 @@ use native.Mathlib.Nat.{le-refl}
 use lib.ListN.{length, set, length-append}
 use borrow.Author.Tests.{le-leb, lt-leb, ltb-true}
 use lib.Dec.{ltb}
-use Rattle.meaning.specs.Text.{opening, closing}
 use Rattle.meaning.proofs.Bounds.{le-or-lt}
 use Rattle.meaning.proofs.Fails.{and-holds}
 use Rattle.meaning.proofs.Stores.{sets-append}
@@ -59,30 +58,15 @@ unfolding digits
 positive [] = omega arith
 positive (b ∷ t) = omega (arith, positive t)
 
-pub sign-digits : (t : List ℕ) → areBytes t ≡ true → signBytes (digits t) ≡ t
+pub sign-digits : (t : List ℕ) {n : ℕ} → areBytes t ≡ true → n ≡ digits t → signBytes n ≡ t
 unfolding digits areBytes
-sign-digits [] h = sign-done 1 (omega arith)
-sign-digits (b ∷ t) h =
+sign-digits [] h e = sign-done _ (omega arith)
+sign-digits (b ∷ t) {n} h e =
     let (low, rest) = and-holds (ltb b byte) (areBytes t) .0 h in
     let l = ltb-true b byte low in
     let p = positive t in
-    let first : (b + byte * digits t) % byte ≡ b = omega arith in
-    let others : (b + byte * digits t) / byte ≡ digits t = omega arith in
-    rw (sign-more (b + byte * digits t) (omega arith), first, others, sign-digits t rest)
-
-abbrev pub openingNumber : ℕ
-openingNumber = 0x01_28
-
-abbrev pub closingNumber : ℕ
-closingNumber = 0x01_29
-
-pub opening-sign : signBytes openingNumber ≡ opening
-unfolding digits areBytes
-opening-sign = sign-digits opening refl
-
-pub closing-sign : signBytes closingNumber ≡ closing
-unfolding digits areBytes
-closing-sign = sign-digits closing refl
+    let first : n % byte ≡ b = omega arith in
+    rw (sign-more n (omega arith), first, sign-digits t {n = n / byte} rest (omega arith))
 
 -- ---- a sign's bytes on the way: some are put, and the rest of the number has the others
 pub record Putting (old : List ℕ) (at sign rest n : ℕ) (out : List ℕ) : Type 0 where

@@ -1,6 +1,5 @@
 -- `sign::atom_sign` meets its contract: the digits of the number are those that are added to zeros.
-use Prim.Native.Nat.{_+_, _*_, _/_, _%_}
-use mathlib.Core.Path.{_≡_}
+use Prim.Native.Nat.{_+_, _/_, _%_}
 use mathlib.Core.List.{[], _∷_}
 use native.Mathlib.Omega.{arith}
 use borrow.Author.Needs.{needs}
@@ -15,16 +14,16 @@ returns : tie.Need-returns
 unfolding ownSign digits areBytes
 returns c =
     let n = c .before .args .number in
-    let e : 0x01_30_70 + 256 * n ≡ digits (0x70 ∷ (0x30 + n) ∷ []) = omega arith in
-    rw (one-digit n (c .if1 .taken), e) (sign-digits _ (rw (lt-ltb (0x30 + n) byte (omega arith))))
+    let low = lt-ltb (0x30 + n) byte (omega arith) in
+    rw (one-digit n (c .if1 .taken)) (sign-digits (0x70 ∷ (0x30 + n) ∷ []) (rw low) (omega arith))
 
 returns-2 : tie.Need-returns-2
 unfolding ownSign digits areBytes
 returns-2 c =
     let n = c .before .args .number in
-    let e : 0x01_30_30_70 + 256 * (n / 10) + 65_536 * (n % 10) ≡ digits (0x70 ∷ (0x30 + n / 10) ∷ (0x30 + n % 10) ∷ []) = omega arith in
-    rw (two-digits n (c .if1 .left) (omega arith), e)
-    (sign-digits _ (rw (lt-ltb (0x30 + n / 10) byte (omega arith), lt-ltb (0x30 + n % 10) byte (omega arith))))
+    let tens = lt-ltb (0x30 + n / 10) byte (omega arith) in
+    let ones = lt-ltb (0x30 + n % 10) byte (omega arith) in
+    rw (two-digits n (c .if1 .left) (omega arith)) (sign-digits (0x70 ∷ (0x30 + n / 10) ∷ (0x30 + n % 10) ∷ []) (rw (tens, ones)) (omega arith))
 
 pub atom-sign-spec : {M : Type 1} → statement M
 atom-sign-spec =

@@ -29,9 +29,9 @@ own-sign-spec =
     tie.close
     (tie.spec
     (λ c κs. c .before .pre (rw (c .match .keys3)))
-    (λ c. rw (c .match .keys1) (sign-digits _ refl)) (λ c. rw (c .match .keys2) (sign-digits _ refl))
+    (λ c. rw (c .match .keys1) (sign-digits _ refl refl)) (λ c. rw (c .match .keys2) (sign-digits _ refl refl))
     (λ c. rw (c .before .match .keys3) (c .atom-sign .ensures))
-    (λ c. rw (c .match .keys4) (sign-digits _ refl)) (λ c. rw (c .match .keys5) (sign-digits _ refl))
-    (λ c. rw (c .match .keys6) (sign-digits _ refl)) (λ c. rw (c .match .keys7) (sign-digits _ refl))
-    (λ c. rw (c .match .keys8) (sign-digits _ refl)) (λ c. rw (c .match .keys9) (sign-digits _ refl))
-    (λ c. rw (c .match .keys10) (sign-digits _ refl)) default)
+    (λ c. rw (c .match .keys4) (sign-digits _ refl refl)) (λ c. rw (c .match .keys5) (sign-digits _ refl refl))
+    (λ c. rw (c .match .keys6) (sign-digits _ refl refl)) (λ c. rw (c .match .keys7) (sign-digits _ refl refl))
+    (λ c. rw (c .match .keys8) (sign-digits _ refl refl)) (λ c. rw (c .match .keys9) (sign-digits _ refl refl))
+    (λ c. rw (c .match .keys10) (sign-digits _ refl refl)) default)
