@@ -1,5 +1,6 @@
 -- A record's text from its parts'. Its fields that are children are its parts, and these are earlier records. With none the text is its
 -- sign; one stands after the sign; two stand in brackets, with the sign in between.
+use Prim.Native.Char.{code}
 use Prim.Native.Nat.{ℕ, _+_, _<_, _≤_}
 use mathlib.Core.Path.{_≡_, refl, sym}
 use mathlib.Core.Bool.{true, false, true≢false, cond}
@@ -15,7 +16,7 @@ use Rattle.meaning.specs.Text.{spell, opening, closing, textAtoms, mostText}
 use Rattle.meaning.specs.WellFormed.{Fits}
 use Rattle.meaning.proofs.Nodes.{tree-of}
 use Rattle.shapes.specs.Uses.{sortCode, useCode}
-use Rattle.spelling.specs.Spelling.{signBytes, ownSign, textOf, textAt, Spelling}
+use Rattle.spelling.specs.Spelling.{byte, signBytes, ownSign, textOf, textAt, Spelling}
 use Rattle.spelling.proofs.Putting.{digits, areBytes, sign-digits}
 
 -- ---- by what the fields hold
@@ -69,10 +70,10 @@ pub record Read (s : List ℕ) (r at k a b v : ℕ) : Type 0 where
 
 -- The signs of the brackets.
 abbrev openingNumber : ℕ
-openingNumber = 0x01_28
+openingNumber = byte + code "("
 
 abbrev closingNumber : ℕ
-closingNumber = 0x01_29
+closingNumber = byte + code ")"
 
 -- Its parts are earlier, and its text fits.
 pub record One (s : List ℕ) (r at a v : ℕ) : Type 0 where

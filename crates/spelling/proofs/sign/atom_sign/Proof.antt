@@ -1,4 +1,5 @@
 -- `sign::atom_sign` meets its contract: the digits of the number are those that are added to zeros.
+use Prim.Native.Char.{code}
 use Prim.Native.Nat.{_+_, _/_, _%_}
 use mathlib.Core.List.{[], _∷_}
 use native.Mathlib.Omega.{arith}
@@ -14,16 +15,16 @@ returns : tie.Need-returns
 unfolding ownSign digits areBytes
 returns c =
     let n = c .before .args .number in
-    let low = lt-ltb (0x30 + n) byte (omega arith) in
-    rw (one-digit n (c .if1 .taken)) (sign-digits (0x70 ∷ (0x30 + n) ∷ []) (rw low) (omega arith))
+    let low = lt-ltb (code "0" + n) byte (omega arith) in
+    rw (one-digit n (c .if1 .taken)) (sign-digits (code "p" ∷ (code "0" + n) ∷ []) (rw low) (omega arith))
 
 returns-2 : tie.Need-returns-2
 unfolding ownSign digits areBytes
 returns-2 c =
     let n = c .before .args .number in
-    let tens = lt-ltb (0x30 + n / 10) byte (omega arith) in
-    let ones = lt-ltb (0x30 + n % 10) byte (omega arith) in
-    rw (two-digits n (c .if1 .left) (omega arith)) (sign-digits (0x70 ∷ (0x30 + n / 10) ∷ (0x30 + n % 10) ∷ []) (rw (tens, ones)) (omega arith))
+    let tens = lt-ltb (code "0" + n / 10) byte (omega arith) in
+    let ones = lt-ltb (code "0" + n % 10) byte (omega arith) in
+    rw (two-digits n (c .if1 .left) (omega arith)) (sign-digits (code "p" ∷ (code "0" + n / 10) ∷ (code "0" + n % 10) ∷ []) (rw (tens, ones)) (omega arith))
 
 pub atom-sign-spec : {M : Type 1} → statement M
 atom-sign-spec =
