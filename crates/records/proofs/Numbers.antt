@@ -48,7 +48,7 @@ unfolding kindOf kinds
 star-kind = refl
 
 -- ---- the numbers of records
-pub core-number : (n : ℕ) → known core (kindOf n) ≡ true → n < 11
+core-number : (n : ℕ) → known core (kindOf n) ≡ true → n < 11
 unfolding known kinds
 core-number n h =
     elim (le-or-lt 11 n)

@@ -85,8 +85,8 @@ pub record Two (s : List ℕ) (r at a b v : ℕ) : Type 0 where
   pub first : a < r
   pub second : b < r
   pub text : textAt s r ≡ signBytes openingNumber ++ (textAt s a ++ (signBytes v ++ (textAt s b ++ signBytes closingNumber)))
-  pub room : at + (length (signBytes openingNumber) + (length (textAt s a) + (length (signBytes v) + (length (textAt s b) + length (signBytes closingNumber)))))
-      ≤ mostText
+  pub room : at + (length (signBytes openingNumber) + (length (textAt s a) + (length (signBytes v)
+      + (length (textAt s b) + length (signBytes closingNumber))))) ≤ mostText
 
 module _ {s : List ℕ} {r at k a b v : ℕ} (g : Read s r at k a b v) where
   text-of : textAt s r ≡ joined (useA (kindOf k)) (useB (kindOf k)) (signBytes v) (treeAt s a) (treeAt s b)

@@ -13,9 +13,11 @@ use mathlib.Core.List.{List, [], _∷_, _++_}
 use lib.Dec.{leb}
 use lib.ListN.{length}
 use lib.Seq.{sets}
-use Rattle.meaning.specs.Record.{core, count, kindAt, Kind, constant, atom, modal, move, test, choice, sequence, star, shorthand, unknown, Sort, sortOf}
+use Rattle.meaning.specs.Record.{core, count, kindAt, Sort, sortOf}
+use Rattle.meaning.specs.Record.{Kind, constant, atom, modal, move, test, choice, sequence, star, shorthand, unknown}
 use Rattle.meaning.specs.Tree.{Tree, asForm, asPath, treeAt, formAt}
-use Rattle.meaning.specs.Text.{falseSign, trueSign, atomSign, decimal, modeSign, moveSign, testSign, choiceSign, sequenceSign, starSign, spell, spellPath, mostText}
+use Rattle.meaning.specs.Text.{falseSign, trueSign, atomSign, modeSign, moveSign, testSign, choiceSign, sequenceSign, starSign}
+use Rattle.meaning.specs.Text.{decimal, spell, spellPath, mostText}
 use Rattle.meaning.specs.WellFormed.{WellFormed}
 
 -- ---- signs

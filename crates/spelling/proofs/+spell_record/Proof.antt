@@ -136,6 +136,7 @@ pub +spell-record-spec : {M : Type 1} → statement M
     (λ c κs. omega (arith, two t (c .before) .room))
     (λ c κs. let p = c .before .before .before in part t (p .before) _ _ (two t p .first) (omega (arith, two t p .room)))
     (λ c κs. omega (arith, two t (c .before .before .before .before .before) .room))
-    (λ c κs. let p = c .before .before .before .before .before .before .before in part t (p .before) _ _ (two t p .second) (omega (arith, two t p .room)))
+    (λ c κs. let p = c .before .before .before .before .before .before .before in
+    part t (p .before) _ _ (two t p .second) (omega (arith, two t p .room)))
     (λ c κs. omega (arith, two t (c .before .before .before .before .before .before .before .before .before) .room))
     (returns-3 t)

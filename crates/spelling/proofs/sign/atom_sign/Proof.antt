@@ -24,7 +24,8 @@ returns-2 c =
     let n = c .before .args .number in
     let tens = lt-ltb (code "0" + n / 10) byte (omega arith) in
     let ones = lt-ltb (code "0" + n % 10) byte (omega arith) in
-    rw (two-digits n (c .if1 .left) (omega arith)) (sign-digits (code "p" ∷ (code "0" + n / 10) ∷ (code "0" + n % 10) ∷ []) (rw (tens, ones)) (omega arith))
+    rw (two-digits n (c .if1 .left) (omega arith))
+    (sign-digits (code "p" ∷ (code "0" + n / 10) ∷ (code "0" + n % 10) ∷ []) (rw (tens, ones)) (omega arith))
 
 pub atom-sign-spec : {M : Type 1} → statement M
 atom-sign-spec =
