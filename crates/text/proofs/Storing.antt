@@ -8,7 +8,7 @@ use native.Mathlib.Nat.{le-refl}
 use native.Mathlib.Omega.{arith}
 use lib.ListN.{length, getD, take, drop, List·getD-append}
 use lib.Seq.{sets}
-use borrow.Author.Tests.{lt-ltb, le-ltb, eq-eqb, ne-eqb}
+use borrow.Author.Tests.{lt-ltb, le-ltb, ltb-false, eq-eqb, ne-eqb}
 use Rattle.meaning.specs.Run.{each, written}
 use Rattle.meaning.specs.Record.{core, recordSize, mostRecords, count, kindAt, fieldA, fieldB}
 use Rattle.meaning.specs.Formula.{Form, formAtoms}
@@ -16,7 +16,7 @@ use Rattle.meaning.specs.Tree.{formAt, formSize, postorder}
 use Rattle.meaning.specs.Text.{spell, formIn}
 use Rattle.meaning.specs.Refusal.{Ground, ofFirst, firstOf, ground5, ground10, checkGrounds, formGrounds, writeGrounds, readGrounds}
 use Rattle.meaning.specs.Service.{accepted, writeAnswer, writeAfter, readAnswer, readAfter}
-use Rattle.meaning.proofs.First.{Clear, clear-skip, found-stop}
+use Rattle.meaning.proofs.First.{Clear, Numbered, none-clear, clear-skip, found-stop, clear-append, numbered-append, numbered-each}
 use Rattle.meaning.proofs.Stores.{sets-written, front-copied}
 use Rattle.meaning.proofs.Postorder.{form-part}
 use Rattle.text.specs.Texting.{backGrounds, atomGrounds, recordsGrounds, Sized, Came}
@@ -55,46 +55,52 @@ front-read : (e l : List ℕ) → length e ≤ length l → (i : ℕ) → i < le
 unfolding written
 front-read e l h i b = rw (sets-written e l h) (List·getD-append e (drop (length e) l) 0 i b)
 
-module _ (F : Form) (l : List ℕ) (few : formSize F ≤ mostRecords) (size : length l ≡ recordSize * mostRecords) where
+pub records-long : (F : Form) → length (postorder F) ≡ recordSize * formSize F
+records-long F = form-part core (postorder F) (formAtoms F) F 0 (le-refl _) .whole
+
+module _ (F : Form) (l : List ℕ) {buffer : List ℕ} {n : ℕ} (few : formSize F ≤ mostRecords) (size : length l ≡ recordSize * mostRecords)
+    (made : buffer ≡ sets l 0 (postorder F)) (counts : n ≡ formSize F) where
   abbrev e : List ℕ
   e = postorder F
-
-  pub records-long : length e ≡ recordSize * formSize F
-  records-long = form-part core e (formAtoms F) F 0 (le-refl _) .whole
-
-  abbrev buffer : List ℕ
-  buffer = sets l 0 e
 
   same-atoms : (A r : ℕ) → r < formSize F → ground5 buffer A r ≡ ground5 e A r
   unfolding ground5
   same-atoms A r b =
       let at : (i : ℕ) → i < recordSize * r + recordSize → getD buffer i 0 ≡ getD e i 0 = λ i h.
-          front-read e l (omega (arith, records-long)) i (omega (arith, records-long)) in
-      rw (at (recordSize * r) (omega arith), at (recordSize * r + 2) (omega arith), at (recordSize * r + 2 + 1) (omega arith),
-      at (recordSize * r + 4) (omega arith), at (recordSize * r + 4 + 1) (omega arith))
+      rw made (front-read e l (omega (arith, records-long F)) i (omega (arith, records-long F))) in
+      rw (
+        at (recordSize * r) (omega arith),
+        at (recordSize * r + 2) (omega arith),
+        at (recordSize * r + 2 + 1) (omega arith),
+        at (recordSize * r + 4) (omega arith),
+        at (recordSize * r + 4 + 1) (omega arith),
+      )
 
-  same-grounds : (A n : ℕ) → n ≤ formSize F → atomGrounds buffer n A ≡ atomGrounds e n A
+  same-grounds : (A m : ℕ) → m ≤ formSize F → atomGrounds buffer m A ≡ atomGrounds e m A
   unfolding each
   same-grounds A zero h = refl
-  same-grounds A (suc n) h = rw (same-grounds A n (omega arith), same-atoms A n h)
+  same-grounds A (suc m) h = rw (same-grounds A m (omega arith), same-atoms A m h)
 
-  module _ (A : ℕ) (out : List ℕ) (x : ℕ) (test : x ≡ firstOf (recordsGrounds buffer (formSize F) A (length out))) where
+  module _ (A : ℕ) (out : List ℕ) {x : ℕ} (test : x ≡ firstOf (recordsGrounds buffer n A (length out))) where
     tested : x ≡ firstOf (recordsGrounds e (formSize F) A (length out))
-    tested = test ∙ rw (same-grounds A (formSize F) (le-refl _))
+    tested = test ∙ rw (counts, same-grounds A (formSize F) (le-refl _))
 
     pub records-refused : (x ≡ 0 → ⊥) → Came F A out x 0 out
     records-refused d = let other = ne-eqb x 0 d in record { refused = tested; counted = rw other; stored = rw other }
 
     module _ (z : x ≡ 0) where
-      pub records-room : recordSize * formSize F ≤ length out
-      unfolding ground10
-      records-room = ?
+      pub records-room : recordSize * n ≤ length out
+      unfolding ground5 ground10
+      records-room =
+          let ends : Numbered (ground10 (recordSize * formSize F) (length out) ∷ []) = omega arith in
+          let all = none-clear _ (numbered-append (atomGrounds e (formSize F) A) _ (numbered-each _ _ (λ r. omega arith)) ends) (sym tested ∙ z) in
+          rw counts (ltb-false (length out) _ (clear-append (atomGrounds e (formSize F) A) _ .0 all .1 .0))
 
-      pub records-stored : {after : List ℕ} → after ≡ sets out 0 (take (recordSize * formSize F) buffer) → Came F A out x (formSize F) after
+      pub records-stored : {after : List ℕ} → after ≡ sets out 0 (take (recordSize * n) buffer) → Came F A out x n after
       records-stored a =
           let given = eq-eqb x 0 z in
-          let copied = rw records-long at (front-copied e l out (omega (arith, records-long)) (omega (arith, records-long, records-room))) in
-          record { refused = tested; counted = rw given; stored = rw given (a ∙ copied) }
+          let copied = rw (records-long F) at (front-copied e l out (omega (arith, records-long F)) (omega (arith, records-long F, records-room))) in
+          record { refused = tested; counted = rw given counts; stored = rw given (a ∙ rw (counts, made) copied) }
 
 -- ---- the whole answers
 -- Of any service that gives a number and writes bytes, or refuses.

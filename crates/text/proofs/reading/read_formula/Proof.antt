@@ -1,15 +1,22 @@
 -- `reading::read_formula` meets its contract: the buffer begins with the records, which are looked at, and copied where there is room.
-use Prim.Native.Nat.{_*_, _≤_}
+use Prim.Native.Nat.{ℕ, _*_}
+use mathlib.Core.List.{List}
 use mathlib.Core.Path.{_≡_, refl, sym, ap, _∙_}
 use native.Mathlib.Omega.{arith}
 use lib.ListN.{length, replicate}
-use lib.Seq.{length-sets}
+use lib.Seq.{sets, length-sets}
 use borrow.Author.Needs.{needs}
 use Rattle.meaning.specs.Record.{recordSize, mostRecords}
+use Rattle.meaning.specs.Tree.{formSize, postorder}
 use Rattle.meaning.specs.Text.{formIn}
+use Rattle.meaning.specs.Refusal.{firstOf}
+use Rattle.text.specs.Texting.{recordsGrounds}
 use Rattle.text.proofs.Storing.{records-refused, records-room, records-stored}
 use Rattle.text.proofs.reading.read_formula.Statement.{statement}
 use Rattle.text.proofs.reading.read_formula.Tie as tie
+
+abbrev zeros : List ℕ
+zeros = replicate (recordSize * mostRecords) 0
 
 -- After the records were written into the buffer.
 abbrev start : tie.After-write-records → tie.Start
@@ -25,16 +32,30 @@ records-refusal-requires c κs =
     (omega (arith, buffer-size call, n, start call .pre .few), omega (arith, n, start call .pre .few))
 
 returns : tie.Need-returns
-returns c = ?
+returns c =
+    let call = c .before .before .before in
+    records-refused _ zeros (start call .pre .few) refl (call .write-records .ensures) (call .before .before .size-of .ensures) _ _
+    (c .before .records-refusal .ensures) (c .if1 .taken)
 
 copy-requires : tie.Need-copy-requires
-copy-requires c κs = ?
+copy-requires c κs =
+    let one = c .before .before in
+    let call = one .before .before .before in
+    let n = call .before .before .size-of .ensures in (
+      omega (arith, buffer-size call, n, start call .pre .few),
+      records-room _ zeros (start call .pre .few) refl (call .write-records .ensures) n _ (start call .args .out .now) (one .before .records-refusal .ensures) (one .if1 .left),
+    )
 
 returns-2 : tie.Need-returns-2
-returns-2 c = ?
+returns-2 c =
+    let copy = c .before .before in
+    let one = copy .before .before .before in
+    let call = one .before .before .before in
+    records-stored _ zeros (start call .pre .few) refl (call .write-records .ensures) (call .before .before .size-of .ensures) _ _
+    (one .before .records-refusal .ensures) (one .if1 .left) (copy .copy .ensures)
 
 pub read-formula-spec : {M : Type 1} → statement M
 read-formula-spec =
     tie.close
     (tie.spec (λ c κs. search needs) (λ c κs. search needs) (λ c. sym (buffer-size (c .before))) records-refusal-requires returns
-    (λ c. sym (buffer-size (c .before .before .before .before))) (λ c. omega (arith, ?)) copy-requires (λ c. search needs) returns-2)
+    (λ c. sym (buffer-size (c .before .before .before .before))) (λ c. omega (arith, c .before .before .before .before .before .before .size-of .ensures, start (c .before .before .before .before) .pre .few)) copy-requires (λ c. search needs) returns-2)

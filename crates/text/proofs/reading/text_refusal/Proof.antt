@@ -31,16 +31,26 @@ unfolding ofFirst ground8 ground14-text ground19 ground14
 returns-4 c =
     let form = c .before .before in
     let long = form .before .before in
-    rw (le-ltb mostAtoms _ (long .before .if1 .left), le-ltb mostText _ (long .if2 .left), sym (form .before .is-formula .ensures) ∙ not-false _ (form .if3 .left),
-    ← c .before .size-of .ensures, lt-ltb mostRecords _ (c .if4 .taken))
+    rw (
+      le-ltb mostAtoms _ (long .before .if1 .left),
+      le-ltb mostText _ (long .if2 .left),
+      sym (form .before .is-formula .ensures) ∙ not-false _ (form .if3 .left),
+      ← c .before .size-of .ensures,
+      lt-ltb mostRecords _ (c .if4 .taken),
+    )
 
 returns-5 : tie.Need-returns-5
 unfolding ofFirst ground8 ground14-text ground19 ground14
 returns-5 c =
     let form = c .before .before in
     let long = form .before .before in
-    rw (le-ltb mostAtoms _ (long .before .if1 .left), le-ltb mostText _ (long .if2 .left), sym (form .before .is-formula .ensures) ∙ not-false _ (form .if3 .left),
-    ← c .before .size-of .ensures, le-ltb mostRecords _ (c .if4 .left))
+    rw (
+      le-ltb mostAtoms _ (long .before .if1 .left),
+      le-ltb mostText _ (long .if2 .left),
+      sym (form .before .is-formula .ensures) ∙ not-false _ (form .if3 .left),
+      ← c .before .size-of .ensures,
+      le-ltb mostRecords _ (c .if4 .left),
+    )
 
 pub text-refusal-spec : {M : Type 1} → statement M
 text-refusal-spec = tie.close (tie.spec returns returns-2 (λ c κs. search needs) returns-3 size-of-requires returns-4 returns-5)
