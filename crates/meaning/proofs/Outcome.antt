@@ -21,9 +21,10 @@ use Rattle.meaning.specs.Translation.{translation}
 use Rattle.meaning.specs.Judge.{Verdict, verdict}
 use Rattle.meaning.specs.Refusal.{firstOf, judgeGrounds, wholeForm}
 use Rattle.meaning.specs.Service.{accepted, table, judgment, checkAnswer, expandAnswer, expandAfter, valueAnswer, valueAfter, translateAnswer}
-use Rattle.meaning.specs.Service.{translateAfter, judgeAnswer, rowBy, rowOf}
+use Rattle.meaning.specs.Service.{translateAfter, writeAnswer, writeAfter, readAnswer, readAfter, judgeAnswer, rowBy, rowOf}
+use Rattle.meaning.specs.Text.{spell, formIn}
 use Rattle.meaning.specs.Reason.{Reason, First, noRoom, CheckRefused, ExpandRefused, ValueRefused, TranslateRefused, JudgeRefused, wrongLength}
-use Rattle.meaning.specs.Reason.{wrongSize, lastIsPath, wrongCell}
+use Rattle.meaning.specs.Reason.{wrongSize, lastIsPath, wrongCell, WriteRefused, ReadRefused}
 use Rattle.meaning.specs.Outcome.{Answered, RowsAre, VerdictIs, RulesRead}
 use Rattle.meaning.specs.Three.{negation}
 use Rattle.meaning.proofs.Bounds.{le-or-lt}
@@ -31,7 +32,7 @@ use Rattle.meaning.proofs.Runs.{length-each, length-tabulate, getD-each
 use Rattle.meaning.proofs.Postorder.{form-part}
 use Rattle.meaning.proofs.RuleCount.{words-length, translation-counted}
 use Rattle.meaning.proofs.Ordered.{first-of}
-use Rattle.meaning.proofs.Refusing.{check-ordered, expand-ordered, value-ordered, translate-ordered, judge-ordered}
+use Rattle.meaning.proofs.Refusing.{check-ordered, expand-ordered, value-ordered, translate-ordered, write-ordered, read-ordered, judge-ordered}
 use Rattle.meaning.proofs.Nodes.{either-sort}
 use Rattle.meaning.proofs.Reading.{reading, same-value}
 use Rattle.meaning.proofs.Fails.{eqb-holds, ltb-holds}
@@ -101,6 +102,22 @@ translate-answered s A out =
     answered (length ρs) (words ρs) (first-of (translate-ordered s A (length out)))
     (λ e. rw (eq-eqb _ 0 e) (words-length ρs))
     (λ l. inr (inr (refl, rw (translation-counted s A) at (rw (words-length ρs) at l))))
+
+pub write-answered : (s : List ℕ) (A : ℕ) (out : List ℕ) →
+    let answer = writeAnswer s A (length out) in
+    Answered (WriteRefused s A (length out)) (answer .refusal) (answer .count) (answer .count) out (writeAfter s A out)
+unfolding writeAnswer writeAfter
+write-answered s A out =
+    answered _ (spell (formAt s (pred (count s)))) (first-of (write-ordered s A (length out))) (λ e. rw (eq-eqb _ 0 e)) (λ l. inr (inr (refl, l)))
+
+pub read-answered : (t : List ℕ) (A : ℕ) (out : List ℕ) →
+    let answer = readAnswer t A (length out) in
+    Answered (ReadRefused t A (length out)) (answer .refusal) (answer .count) (recordSize * answer .count) out (readAfter t A out)
+unfolding readAnswer readAfter
+read-answered t A out =
+    let F = formIn t in
+    answered (formSize F) (postorder F) (first-of (read-ordered t A (length out)))
+    (λ e. rw (eq-eqb _ 0 e) (records-length F)) (λ l. inr (inr (inr (inr (inr (refl, rw (records-length F) at l))))))
 
 -- A verdict refuses nothing.
 verdict-accepts : (v : Verdict) → judgment v .refusal ≡ 0

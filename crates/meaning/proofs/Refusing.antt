@@ -5,12 +5,13 @@ use mathlib.Core.Path.{_≡_, refl, sym, _∙_}
 use mathlib.Core.Bool.{Bool, true, false, not, _&&_, _||_, true≢false}
 use mathlib.Core.Logic.{_⊎_, inl, inr, _↔_, _≢_, Iff·rfl, Iff·trans, ⊎-map}
 use mathlib.Core.List.{List, [], _∷_}
+use mathlib.Core.Option.{Option, none, some}
 use native.Mathlib.Nat.{le-refl}
 use native.Mathlib.Omega.{arith}
 use lib.ListN.{length}
 use lib.Dec.{leb, eqb}
 use borrow.Author.Tests.{leb-true, le-leb}
-use Rattle.meaning.specs.Record.{Language, count, kindAt, Kind, star, Sort, formula, path, sortOf, Use, unused, atomNumber, child, core, full}
+use Rattle.meaning.specs.Record.{Language, count, kindAt, Kind, move, star, ahead, back, Sort, formula, path, sortOf, Use, unused, atomNumber, child, core, full}
 use Rattle.meaning.specs.Rule.{ruleAt, ruleWord}
 use Rattle.meaning.specs.Refusal.{stray, late, beyond, differ, misfit, isStar, badLiteral, badRule, ground1, ground2, ground3}
 use Rattle.meaning.specs.Refusal.{ground4, ground5, ground6, ground6-last, ground7, ground8-cells, ground11, ground12, ground13}
@@ -19,11 +20,17 @@ use Rattle.meaning.specs.Refusal.{starGrounds, starredGrounds, formulaGr
 use Rattle.meaning.specs.Reason.{WrongSize, WrongWord, WrongRule, given, position, positionOf, noRoom, RecordRefused}
 use Rattle.meaning.specs.Reason.{TreeRefused, FormulaRefused, StarRefused, CellRefused, CheckRefused, ExpandRefused, ValueRefused}
 use Rattle.meaning.specs.Reason.{TranslateRefused, JudgeRefused, _when_}
+use Rattle.meaning.specs.Reason.{WriteRefused, ReadRefused}
+use Rattle.meaning.specs.Refusal.{isBack, ground14-text, ground18, ground19, writeGrounds, readGrounds}
+use Rattle.meaning.specs.Formula.{Form}
+use Rattle.meaning.specs.Tree.{formSize, postorder}
+use Rattle.meaning.specs.Text.{isAhead, Spells, read, isRead, formIn}
 use Rattle.meaning.specs.Judge.{ruleCount}
 use Rattle.meaning.proofs.Bounds.{below-suc}
 use Rattle.meaning.proofs.Cases.{by-kind}
 use Rattle.meaning.proofs.Fails.{and-holds, not-holds, eqb-holds, eqb-fails, ltb-holds}
 use Rattle.meaning.proofs.RuleCount.{translation-counted}
+use Rattle.meaning.proofs.Spelling.{not-found, reads, spelled}
 use Rattle.meaning.proofs.Ordered.{Ordered, ordered-one, ordered-cons, ordered-same, ordered-append, ordered-each}
 
 -- ---- tests
@@ -152,11 +159,11 @@ module _ (ℓ : Language) (s : List ℕ) (A : ℕ) where
       (ordered-cons eight (omega arith) fact tree-ordered (omega arith)) (omega arith)
 
 -- ---- traces and buffers
-cells-ordered : (cells : List ℕ) → Ordered (grounds9 cells) (CellRefused cells) (position 9 0 0) (position 9 (length cells) 0)
+cells-ordered : (cells : List ℕ) → Ordered (grounds9 cells) (CellRefused cells) (position 13 0 0) (position 13 (length cells) 0)
 unfolding grounds9 given positionOf
-cells-ordered cells = ordered-each 9 0 (λ i. ordered-one refl (omega arith) (ltb-holds _ _)) (length cells)
+cells-ordered cells = ordered-each 13 0 (λ i. ordered-one refl (omega arith) (ltb-holds _ _)) (length cells)
 
-room-ordered : (needed room : ℕ) → Ordered (ground10 needed room ∷ []) (noRoom when (room < needed)) (position 10 0 0) (position 10 0 0)
+room-ordered : (needed room : ℕ) → Ordered (ground10 needed room ∷ []) (noRoom when (room < needed)) (position 14 0 0) (position 14 0 0)
 unfolding ground10 given positionOf
 room-ordered needed room = ordered-one refl (omega arith) (ltb-holds _ _)
 
@@ -171,14 +178,14 @@ module _ (s : List ℕ) (A : ℕ) where
   unfolding checkGrounds
   check-ordered = atoms-ordered core
 
-  pub expand-ordered : (room : ℕ) → Ordered (expandGrounds s A room) (ExpandRefused s A room) (position 0 0 0) (position 10 0 0)
+  pub expand-ordered : (room : ℕ) → Ordered (expandGrounds s A room) (ExpandRefused s A room) (position 0 0 0) (position 14 0 0)
   unfolding expandGrounds ground14 given positionOf
   expand-ordered room =
       ordered-append (atoms-ordered full)
       (ordered-cons refl (omega arith) (ltb-holds _ _) (room-ordered _ room) (omega arith)) (omega arith)
 
   pub value-ordered : (L : ℕ) (cells : List ℕ) (room : ℕ)
-      → Ordered (valueGrounds s A L cells room) (ValueRefused s A L cells room) (position 0 0 0) (position 10 0 0)
+      → Ordered (valueGrounds s A L cells room) (ValueRefused s A L cells room) (position 0 0 0) (position 14 0 0)
   unfolding valueGrounds ground8-cells
   value-ordered L cells room =
       ordered-append (formula-ordered core s A _ _ refl (sizes-apply _ A L cells))
@@ -193,17 +200,50 @@ module _ (s : List ℕ) (A : ℕ) where
       (ordered-one refl (omega arith) (both (star-is _) Iff·rfl)) (omega arith)) (count s)) (omega arith)
 
   pub translate-ordered : (room : ℕ)
-      → Ordered (translateGrounds s A room) (TranslateRefused s A room) (position 0 0 0) (position 10 0 0)
+      → Ordered (translateGrounds s A room) (TranslateRefused s A room) (position 0 0 0) (position 14 0 0)
   unfolding translateGrounds
   translate-ordered room =
       rw (translation-counted s A)
       (ordered-same (λ ρ. one-of-three) (omega arith) (ordered-append starred-ordered (room-ordered _ room) (omega arith)))
 
+-- ---- text
+back-is : (K : Kind) → (isBack K ≡ true) ↔ (K ≡ move back)
+unfolding isBack isAhead
+back-is =
+    by-kind _ (λ v. never (λ e. cc)) (never (λ e. cc)) (λ m. never (λ e. cc)) (elim [ ahead ↦ never (λ e. cc) | back ↦ (λ e. refl, λ e. refl) ])
+    (never (λ e. cc)) (never (λ e. cc)) (never (λ e. cc)) (never (λ e. cc)) (λ σ. never (λ e. cc)) (never (λ e. cc))
+
+-- What is not read is the text of no formula.
+unread-is : (t : List ℕ) → (not (isRead (read t)) ≡ true) ↔ ((F : Form) → Spells F t → ⊥)
+unfolding isRead
+unread-is t = go (read t) refl
+  where
+    go : (x : Option Form) → read t ≡ x → (not (isRead x) ≡ true) ↔ ((F : Form) → Spells F t → ⊥)
+    go none e = (λ h F s. not-found F (sym e ∙ spelled t F s), λ h. refl)
+    go (some F) e = (λ h. absurd (true≢false (sym h)), λ h. absurd (h F (reads t F e)))
+
+pub write-ordered : (s : List ℕ) (A room : ℕ) → Ordered (writeGrounds s A room) (WriteRefused s A room) (position 0 0 0) (position 14 0 0)
+unfolding writeGrounds ground18 given positionOf
+write-ordered s A room =
+    ordered-append (check-ordered s A)
+    (ordered-append (ordered-each 6 0 (λ r. ordered-one refl (omega arith) (back-is _)) (count s)) (room-ordered _ room) (omega arith)) (omega arith)
+
+pub read-ordered : (t : List ℕ) (A room : ℕ) → Ordered (readGrounds t A room) (ReadRefused t A room) (position 1 0 0) (position 14 0 0)
+unfolding readGrounds ground5 ground8 ground14-text ground19 ground14 given positionOf
+read-ordered t A room =
+    let field = field-applies (postorder (formIn t)) 0 A in
+    ordered-cons refl (omega arith) (ltb-holds _ _)
+    (ordered-cons refl (omega arith) (ltb-holds _ _)
+    (ordered-cons refl (omega arith) (unread-is t)
+    (ordered-cons refl (omega arith) (ltb-holds _ _)
+    (ordered-append (ordered-each 10 0 (λ r. ordered-one refl (omega arith) (either (field _ _ .2) (field _ _ .2))) (formSize (formIn t)))
+    (room-ordered _ room) (omega arith)) (omega arith)) (omega arith)) (omega arith)) (omega arith)
+
 pub judge-ordered : (ws : List ℕ) (W L : ℕ) (cells : List ℕ)
-    → Ordered (judgeGrounds ws W L cells) (JudgeRefused ws W L cells) (position 1 0 0) (position 9 (length cells) 0)
+    → Ordered (judgeGrounds ws W L cells) (JudgeRefused ws W L cells) (position 1 0 0) (position 13 (length cells) 0)
 unfolding judgeGrounds ground8-cells ground13-length ground13 given positionOf
 judge-ordered ws W L cells =
     ordered-cons refl (omega arith) (sizes-apply _ W L cells)
     (ordered-cons refl (omega arith) (either (unequal _ _) (ltb-holds _ _))
-    (ordered-append (ordered-each 8 0 (λ i. ordered-one refl (omega arith) (rule-applies ws W i)) (ruleCount ws))
+    (ordered-append (ordered-each 12 0 (λ i. ordered-one refl (omega arith) (rule-applies ws W i)) (ruleCount ws))
     (cells-ordered cells) (omega arith)) (omega arith)) (omega arith)

@@ -10,13 +10,14 @@ use mathlib.Core.Option.{Option, none, some}
 use native.Mathlib.Omega.{arith}
 use lib.Dec.{eqb, leb}
 use lib.ListN.{length, getD, length-append}
-use borrow.Author.Tests.{eqb-true, leb-true, le-leb, ltb-true, lt-ltb, le-ltb}
+use borrow.Author.Tests.{eqb-true, leb-true, le-leb, ltb-true, lt-ltb}
 use Rattle.meaning.proofs.Fails.{and-holds}
 use Rattle.meaning.proofs.Bounds.{le-or-lt}
-use Rattle.meaning.specs.Record.{Mode, diamond, box, Way, ahead, back}
+use Rattle.meaning.proofs.Lengths.{one-digit, two-digits}
+use Rattle.meaning.specs.Record.{Mode, diamond, box, ahead, back}
 use Rattle.meaning.specs.Formula.{Form, Path, formAtoms, pathAtoms}
 use Rattle.meaning.specs.Tree.{formSize, pathSize}
-use Rattle.meaning.specs.Text.{decimal, decimalIn, falseSign, trueSign, atomSign, stepSign, testSign, starSign, choiceSign, sequenceSign, diamondSign, boxSign, opening, closing, modeSign, moveSign}
+use Rattle.meaning.specs.Text.{decimal, falseSign, trueSign, atomSign, stepSign, testSign, starSign, choiceSign, sequenceSign, diamondSign, boxSign, opening, closing, modeSign, moveSign}
 use Rattle.meaning.specs.Text.{spell, spellPath, isAhead, forward, forwardPath, textAtoms, Spells, then, else, after, sign}
 use Rattle.meaning.specs.Text.{digit, number, twoDigits, oneDigit, readNumber, readAtom, readMode, readJoin, readForm, readPath, whole, read}
 
@@ -67,20 +68,6 @@ sign-some x y bytes t u e =
     (c, after-some bytes t u (rw d at a))
 
 -- ---- numbers
-decimal-one : (i : ℕ) → i < 10 → decimal i ≡ (48 + i) ∷ []
-unfolding decimal decimalIn
-decimal-one i l =
-    let same : i % 10 ≡ i = omega arith in
-    rw (lt-ltb i 10 l, same)
-
-decimal-two : (i : ℕ) → 10 ≤ i → i < 100 → decimal i ≡ (48 + i / 10) ∷ (48 + i % 10) ∷ []
-unfolding decimal decimalIn
-decimal-two zero l h = absurd (omega arith)
-decimal-two (suc i) l h =
-    let tens : suc i / 10 < 10 = omega arith in
-    let same : (suc i / 10) % 10 ≡ suc i / 10 = omega arith in
-    rw (le-ltb (suc i) 10 l, lt-ltb (suc i / 10) 10 tens, same)
-
 digit-is : (b : ℕ) → digit b ≡ true → (48 ≤ b) × (b ≤ 57)
 unfolding digit
 digit-is b e = let (x, y) = and-holds _ _ .0 e in (leb-true 48 b x, leb-true b 57 y)
@@ -95,7 +82,7 @@ one-some b t u i e = go (digit b) refl e
         let (low, high) = digit-is b d in
         let (j, v) = pair-some (b - 48) i t u e in
         let same : 48 + i ≡ b = omega arith in
-        (rw (decimal-one i (omega arith), same, v), omega arith)
+        (rw (one-digit i (omega arith), same, v), omega arith)
 
 number-some : (t u : List ℕ) (i : ℕ) → readNumber t ≡ some (i, u) → (t ≡ decimal i ++ u) × (i < textAtoms)
 unfolding readNumber twoDigits number
@@ -115,7 +102,7 @@ number-some (b ∷ c ∷ t) u i e = go (twoDigits b c) refl e
         let (j, v) = pair-some _ i t u e in
         let first : 48 + i / 10 ≡ b = omega arith in
         let second : 48 + i % 10 ≡ c = omega arith in
-        (rw (decimal-two i (omega arith) (omega arith), first, second, v), omega arith)
+        (rw (two-digits i (omega arith) (omega arith), first, second, v), omega arith)
 
 -- Where no digit follows, a number that is spelled is read.
 is-digit : (i : ℕ) → i < 10 → digit (48 + i) ≡ true
@@ -145,8 +132,8 @@ two-hold i l h = rw (le-leb 49 (48 + i / 10) (omega arith), is-digit (i % 10) (o
 number-read : (i : ℕ) (u : List ℕ) → i < textAtoms → digit (getD u 0 0) ≡ false → readNumber (decimal i ++ u) ≡ some (i, u)
 unfolding readNumber
 number-read i u l d = elim (le-or-lt 10 i) [
-  | inl h ↦ rw (decimal-two i h (omega arith), two-hold i h l, two-number i)
-  | inr h ↦ rw (decimal-one i h) (one u d h)
+  | inl h ↦ rw (two-digits i h (omega arith), two-hold i h l, two-number i)
+  | inr h ↦ rw (one-digit i h) (one u d h)
 ]
   where
     one : (u : List ℕ) → digit (getD u 0 0) ≡ false → i < 10 → readNumber ((48 + i) ∷ u) ≡ some (i, u)

@@ -1,11 +1,11 @@
 -- What writing and reading text take. Of records without a back step the tree has none, so the whole formula's text is read as it; and
 -- the records of a formula without a back step have none, so they are written as its text.
 use Prim.Native.Nat.{ℕ, zero, suc, pred, _+_, _*_, _<_, _≤_, zero-le}
-use mathlib.Core.Path.{_≡_, refl, sym, ap, _∙_}
-use mathlib.Core.Bool.{Bool, true, false, not, _&&_, true≢false}
+use mathlib.Core.Path.{_≡_, refl, sym}
+use mathlib.Core.Bool.{true, false, true≢false}
 use mathlib.Core.Logic.{_↔_, inl, inr}
-use mathlib.Core.List.{List, [], _∷_, _++_, append-assoc}
-use mathlib.Core.Option.{Option, none, some}
+use mathlib.Core.List.{List, [], _∷_, _++_}
+use mathlib.Core.Option.{some}
 use native.Mathlib.Nat.{le-refl}
 use native.Mathlib.Omega.{arith}
 use lib.ListN.{length, length-append}
@@ -14,7 +14,7 @@ use Rattle.meaning.specs.Record.{core, recordSize, mostRecords, count, k
 use Rattle.meaning.specs.Formula.{Form, Path, formAtoms, pathAtoms}
 use Rattle.meaning.specs.Tree.{Tree, asForm, asPath, nodeOf, treeAt, formAt, formSize, pathSize, formFrom, pathFrom, postorder}
 use Rattle.meaning.specs.Text.{spell, isAhead, forward, forwardPath, mostText, Spells, read, isRead, formIn}
-use Rattle.meaning.specs.Refusal.{Ground, mostAtoms, isBack, ground5, ground8, ground10, ground14, ground14-text, ground18, ground19, checkGrounds, writeGrounds, readGrounds, treeGrounds, formGrounds, ground1}
+use Rattle.meaning.specs.Refusal.{mostAtoms, isBack, ground5, ground8, ground10, ground14, ground14-text, ground18, ground19, checkGrounds, writeGrounds, readGrounds, treeGrounds, formGrounds, ground1}
 use Rattle.meaning.specs.WellFormed.{Fits, WellFormed}
 use Rattle.meaning.proofs.Fails.{tests, and-holds}
 use Rattle.meaning.proofs.Bounds.{le-or-lt}
@@ -22,8 +22,8 @@ use Rattle.meaning.proofs.Nodes.{tree-of}
 use Rattle.meaning.proofs.Atoms.{form-atoms}
 use Rattle.meaning.proofs.Bytes.{At, at-start, at-first, at-second, at-record}
 use Rattle.meaning.proofs.Postorder.{form-part, path-part}
-use Rattle.meaning.proofs.First.{Clear, Numbered, clear-none, none-clear, clear-append, numbered-append, numbered-each}
-use Rattle.meaning.proofs.Accepted.{each-clears, clear-well-formed, tree-numbered}
+use Rattle.meaning.proofs.First.{Clear, Numbered, clear-append, each-clears, numbered-append, numbered-each}
+use Rattle.meaning.proofs.Accepted.{clear-well-formed, tree-numbered}
 
 -- ---- what is taken
 -- A formula without a back step, and room for its text.
@@ -69,23 +69,9 @@ unfolding checkGrounds ground1 ground8 ground18
 back-numbered s A =
     (omega arith, (omega arith, numbered-append (treeGrounds core s A) _ (tree-numbered core s A) (numbered-each _ _ (λ r. omega arith))))
 
-pub write-numbered : (s : List ℕ) (A room : ℕ) → Numbered (writeGrounds s A room)
-unfolding writeGrounds ground10
-write-numbered s A room =
-    let backs = each (count s) (λ r. ground18 s r ∷ []) in
-    rw append-assoc at (numbered-append (checkGrounds s A ++ backs) (ground10 (length (spell (formAt s (pred (count s))))) room ∷ []) (back-numbered s A) (omega arith))
-
 pub form-numbered : (t : List ℕ) (A : ℕ) → Numbered (formGrounds t A)
 unfolding ground8 ground14-text ground19 ground14
 form-numbered t A = (omega arith, (omega arith, (omega arith, (omega arith, tt))))
-
-pub read-numbered : (t : List ℕ) (A room : ℕ) → Numbered (readGrounds t A room)
-unfolding readGrounds ground5 ground10
-read-numbered t A room =
-    let atoms : ℕ → List Ground = λ r. ground5 (postorder (formIn t)) A r ∷ [] in
-    let size = formSize (formIn t) in
-    numbered-append (formGrounds t A) (each size atoms ++ (ground10 (recordSize * size) room ∷ [])) (form-numbered t A)
-    (numbered-append (each size atoms) (ground10 (recordSize * size) room ∷ []) (numbered-each atoms size (λ r. omega arith)) (omega arith))
 
 -- ---- no back step, in records and in their tree
 -- A tree of either sort.

@@ -1,5 +1,5 @@
 -- Specification, Refusals: each reason to refuse as a plain fact, the number that it gives, and which comes before which.
---   Reason                the reasons; r is the record, i the rule or the cell, that a reason is about
+--   Reason                the reasons; r is the record, i the rule or the cell, that a reason is about; an unknown atom is a text's
 --   given ρ               the number that is given back for it
 --   Before σ ρ            σ comes before ρ
 --   First Applies x       x is the number of the first reason that applies; 0 if none does
@@ -11,10 +11,11 @@ use mathlib.Core.Bool.{true, false}
 use mathlib.Core.Logic.{_⊎_, _≢_}
 use mathlib.Core.List.{List}
 use lib.ListN.{length, getD}
-use Rattle.meaning.specs.Record.{Language, core, full, known, recordSize, mostRecords, count, zeroByte, fieldA, fieldB, kindAt, star, Sort, path, sortOf}
+use Rattle.meaning.specs.Record.{Language, core, full, known, recordSize, mostRecords, count, zeroByte, fieldA, fieldB, kindAt, move, star, Sort, path, sortOf}
 use Rattle.meaning.specs.Record.{Use, unused, atomNumber, child, useA, useB, places, ahead, back}
-use Rattle.meaning.specs.Formula.{mayStand, goes}
-use Rattle.meaning.specs.Tree.{pathAt}
+use Rattle.meaning.specs.Formula.{Form, mayStand, goes}
+use Rattle.meaning.specs.Tree.{formAt, pathAt, formSize, postorder}
+use Rattle.meaning.specs.Text.{spell, mostText, Spells, formIn}
 use Rattle.meaning.specs.Rule.{ruleSize, ruleWord, symbolOf, isPrevious}
 use Rattle.meaning.specs.Translation.{ruleSum}
 use Rattle.meaning.specs.Judge.{ruleCount}
@@ -25,8 +26,10 @@ pub data Reason : Type 0 where
   wrongLength wrongSize : Reason
   unknownKind notZero lateChild noSuchAtom wrongSort : ℕ → Reason
   lastIsPath : Reason
-  notOneParent starTurns starStands : ℕ → Reason
-  tooLong wrongWords : Reason
+  notOneParent starTurns starStands noSign : ℕ → Reason
+  longText noText tooLong : Reason
+  unknownAtom : ℕ → Reason
+  wrongWords : Reason
   wrongRule wrongCell : ℕ → Reason
   noRoom : Reason
 
@@ -42,7 +45,11 @@ given lastIsPath = 6
 given (notOneParent r) = 7
 given (starTurns r) = 12
 given (starStands r) = 11
+given (noSign r) = 18
+given longText = 14
+given noText = 19
 given tooLong = 14
+given (unknownAtom r) = 5
 given wrongWords = 13
 given (wrongRule i) = 13
 given (wrongCell i) = 9
@@ -69,11 +76,15 @@ positionOf lastIsPath = position 3 0 0
 positionOf (notOneParent r) = position 4 r 0
 positionOf (starTurns r) = position 5 r 0
 positionOf (starStands r) = position 5 r 1
-positionOf tooLong = position 6 0 0
-positionOf wrongWords = position 7 0 0
-positionOf (wrongRule i) = position 8 i 0
-positionOf (wrongCell i) = position 9 i 0
-positionOf noRoom = position 10 0 0
+positionOf (noSign r) = position 6 r 0
+positionOf longText = position 7 0 0
+positionOf noText = position 8 0 0
+positionOf tooLong = position 9 0 0
+positionOf (unknownAtom r) = position 10 r 0
+positionOf wrongWords = position 11 0 0
+positionOf (wrongRule i) = position 12 i 0
+positionOf (wrongCell i) = position 13 i 0
+positionOf noRoom = position 14 0 0
 
 abbrev pub Earlier : Position → Position → Type 0
 Earlier p q =
@@ -149,6 +160,19 @@ abbrev pub TranslateRefused : List ℕ → ℕ → ℕ → Reason → Type 0
 TranslateRefused s A room ρ =
     CheckRefused s A ρ ⊎ ((r : ℕ) × (r < count s) × StarRefused s r ρ)
     ⊎ (noRoom when (room < ruleSize * (ruleSum s (count s) + 1))) ρ
+
+-- Of text: the records are those that the formula takes.
+abbrev pub WriteRefused : List ℕ → ℕ → ℕ → Reason → Type 0
+WriteRefused s A room ρ =
+    CheckRefused s A ρ ⊎ ((r : ℕ) × (r < count s) × (noSign r when (kindAt s r ≡ move back)) ρ)
+    ⊎ (noRoom when (room < length (spell (formAt s (pred (count s)))))) ρ
+
+abbrev pub ReadRefused : List ℕ → ℕ → ℕ → Reason → Type 0
+ReadRefused t A room ρ =
+    (wrongSize when (mostAtoms < A)) ρ ⊎ (longText when (mostText < length t)) ρ
+    ⊎ (noText when ((F : Form) → Spells F t → ⊥)) ρ ⊎ (tooLong when (mostRecords < formSize (formIn t))) ρ
+    ⊎ ((r : ℕ) × (r < formSize (formIn t)) × (unknownAtom r when InField (postorder (formIn t)) r (λ u v. (u ≡ atomNumber) × (A ≤ v))) ρ)
+    ⊎ (noRoom when (room < recordSize * formSize (formIn t))) ρ
 
 -- Of rule i: a place that there isn't, a symbol that is no column, or the previous instant outside place 2.
 abbrev pub WrongWord : ℕ → ℕ → ℕ → Type 0

@@ -3,10 +3,10 @@ use Prim.Native.Nat.{ℕ, _<_}
 use mathlib.Core.Path.{_≡_, refl, sym}
 use mathlib.Core.Bool.{Bool, true, false, _||_}
 use mathlib.Core.Logic.{_≢_, inl, inr}
-use mathlib.Core.List.{List, []}
+use mathlib.Core.List.{List}
 use native.Mathlib.Omega.{arith}
 use lib.Dec.{leb}
-use Rattle.meaning.specs.Record.{Kind, kinds, kindOf, kindAt, kindByte, fieldA, fieldB, useA, useB, columnsOf, argumentsOf}
+use Rattle.meaning.specs.Record.{Kind, kinds, kindOf, kindByte, fieldA, fieldB, useA, useB, columnsOf, argumentsOf}
 use Rattle.meaning.specs.Text.{isAhead}
 use Rattle.meaning.specs.Refusal.{beyond, ground5, isBack, ground18}
 use Rattle.meaning.proofs.Bounds.{le-or-lt}

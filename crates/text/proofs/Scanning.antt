@@ -1,8 +1,8 @@
 -- One ground of each record in turn: the first record where it applies decides, and it applies to none before that.
 use Prim.Native.Nat.{ℕ, _+_, _<_}
-use mathlib.Core.Path.{_≡_, sym}
+use mathlib.Core.Path.{_≡_}
 use mathlib.Core.Bool.{true, false}
-use mathlib.Core.List.{List, [], _∷_}
+use mathlib.Core.List.{[], _∷_}
 use Rattle.meaning.specs.Run.{each}
 use Rattle.meaning.specs.Refusal.{Ground, ofFirst, firstOf}
 use Rattle.meaning.proofs.First.{Clear, scan-more, scan-found}

@@ -1,8 +1,7 @@
 -- The answers of both services. Their grounds are those of what they are given, and after these those of what comes out; what comes out is
 -- in a buffer, from which it is copied where there is room.
 use Prim.Native.Nat.{ℕ, zero, suc, pred, _+_, _*_, _<_, _≤_}
-use mathlib.Core.Path.{_≡_, refl, sym, ap, _∙_}
-use mathlib.Core.Bool.{true, false}
+use mathlib.Core.Path.{_≡_, refl, sym, _∙_}
 use mathlib.Core.List.{List, [], _∷_, _++_, append-assoc}
 use native.Mathlib.Nat.{le-refl}
 use native.Mathlib.Omega.{arith}
@@ -10,7 +9,7 @@ use lib.ListN.{length, getD, take, drop, List·getD-append}
 use lib.Seq.{sets}
 use borrow.Author.Tests.{lt-ltb, le-ltb, ltb-false, eq-eqb, ne-eqb}
 use Rattle.meaning.specs.Run.{each, written}
-use Rattle.meaning.specs.Record.{core, recordSize, mostRecords, count, kindAt, fieldA, fieldB}
+use Rattle.meaning.specs.Record.{core, recordSize, mostRecords, count}
 use Rattle.meaning.specs.Formula.{Form, formAtoms}
 use Rattle.meaning.specs.Tree.{formAt, formSize, postorder}
 use Rattle.meaning.specs.Text.{spell, formIn}

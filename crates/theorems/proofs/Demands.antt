@@ -25,7 +25,7 @@ use Rattle.meaning.proofs.Refusing.{translate-ordered}
 use Rattle.meaning.proofs.First.{clear-none, clear-append, none-clear}
 use Rattle.meaning.proofs.Accepted.{starred-formed}
 use Rattle.meaning.proofs.RuleCount.{words-length, words-append, translation-counted, few-rules}
-use Rattle.meaning.proofs.Outcome.{check-first, expand-answered, value-answered, translate-answered, judge-first, judge-numbers}
+use Rattle.meaning.proofs.Outcome.{check-first, expand-answered, value-answered, translate-answered, write-answered, read-answered, judge-first, judge-numbers}
 use Rattle.theorems.specs.Demand2.{Demand2}
 use Rattle.theorems.specs.Filling.{others, Filling, Meets}
 use Rattle.theorems.specs.Demand3.{Accepted, Demand3}
@@ -40,6 +40,8 @@ demand-1 = record {
   expand = expand-answered;
   value = value-answered;
   translate = translate-answered;
+  write-text = write-answered;
+  read-text = read-answered;
   judge = judge-first;
   judge-no-numbers = judge-numbers;
 }

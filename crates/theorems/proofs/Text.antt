@@ -1,8 +1,8 @@
 -- Writing and reading undo each other. Where records are written, none is a back step, so the whole formula is read from its text, and its
 -- records in postorder are as many and name the same atoms. Where a text is read, it is its formula's text, and the formula's records
 -- in postorder are a formula again, none of them a back step.
-use Prim.Native.Nat.{ℕ, pred, _*_, _<_, _≤_, zero-le}
-use mathlib.Core.Path.{_≡_, refl, sym, ap, _∙_}
+use Prim.Native.Nat.{ℕ, pred, _*_, _<_, _≤_}
+use mathlib.Core.Path.{_≡_, refl, sym, _∙_}
 use mathlib.Core.Bool.{true, false, true≢false}
 use mathlib.Core.List.{List}
 use mathlib.Core.Option.{Option, none, some}
@@ -15,17 +15,18 @@ use Rattle.meaning.specs.Record.{core, recordSize, count, kindAt, fieldA, field
 use Rattle.meaning.specs.Formula.{Form, formAtoms}
 use Rattle.meaning.specs.Tree.{formAt, formSize, postorder}
 use Rattle.meaning.specs.Text.{spell, textAtoms, Spells, read, isRead, orFalse, formIn}
-use Rattle.meaning.specs.Refusal.{mostAtoms, beyond, ground5, recordGrounds, treeGrounds, writeGrounds, readGrounds}
+use Rattle.meaning.specs.Refusal.{mostAtoms, beyond, ground5, recordGrounds, treeGrounds}
 use Rattle.meaning.specs.WellFormed.{Fits, WellFormed}
-use Rattle.meaning.specs.Service.{Counted, writeAnswer, writeAfter, readAnswer, readAfter}
+use Rattle.meaning.specs.Service.{writeAnswer, writeAfter, readAnswer, readAfter}
 use Rattle.meaning.proofs.Fails.{or-fails}
 use Rattle.meaning.proofs.First.{none-clear, clear-none, clear-append, clear-each}
 use Rattle.meaning.proofs.Accepted.{clear-well-formed, check-accepts}
 use Rattle.meaning.proofs.Atoms.{form-atoms}
 use Rattle.meaning.proofs.Sizes.{whole-size}
 use Rattle.meaning.proofs.Lengths.{spell-long, whole-fits}
+use Rattle.meaning.proofs.Refusing.{write-ordered, read-ordered}
 use Rattle.meaning.proofs.Spelling.{reads, spelled, spell-once}
-use Rattle.meaning.proofs.Texting.{Writes, Takes, write-clear, read-clear, write-numbered, read-numbered, whole-spells, records-onward}
+use Rattle.meaning.proofs.Texting.{Writes, Takes, write-clear, read-clear, whole-spells, records-onward}
 use Rattle.meaning.proofs.Examples.{texts}
 use Rattle.theorems.specs.Text.{given, WrittenIsRead, ReadIsWritten, Text}
 use Rattle.theorems.proofs.Expander.{written-formed, written-count, written-tree}
@@ -33,7 +34,7 @@ use Rattle.theorems.proofs.Expander.{written-formed, written-count, wri
 -- ---- what acceptance gives, and what is answered then
 writes : (s : List ℕ) (A room : ℕ) → writeAnswer s A room .refusal ≡ 0 → Writes s A room
 unfolding writeAnswer
-writes s A room e = write-clear s A room .0 (none-clear _ (write-numbered s A room) e)
+writes s A room e = write-clear s A room .0 (none-clear _ (write-ordered s A room .numbered) e)
 
 writes-answer : (s : List ℕ) (A room : ℕ) → Writes s A room → writeAnswer s A room ≡ given (length (spell (formAt s (pred (count s)))))
 unfolding writeAnswer
@@ -45,7 +46,7 @@ writes-after s A out w = rw (writes-answer s A (length out) w)
 
 takes : (t : List ℕ) (A room : ℕ) → readAnswer t A room .refusal ≡ 0 → Takes t A room
 unfolding readAnswer
-takes t A room e = read-clear t A room .0 (none-clear _ (read-numbered t A room) e)
+takes t A room e = read-clear t A room .0 (none-clear _ (read-ordered t A room .numbered) e)
 
 takes-answer : (t : List ℕ) (A room : ℕ) → Takes t A room → readAnswer t A room ≡ given (formSize (formIn t))
 unfolding readAnswer

@@ -8,8 +8,9 @@ use lib.ListN.{length}
 use Rattle.meaning.specs.Record.{recordSize, count}
 use Rattle.meaning.specs.Rule.{ruleSize}
 use Rattle.meaning.specs.Service.{checkAnswer, expandAnswer, expandAfter, valueAnswer, valueAfter, translateAnswer, translateAfter, judgeAnswer}
+use Rattle.meaning.specs.Service.{writeAnswer, writeAfter, readAnswer, readAfter}
 use Rattle.meaning.specs.Outcome.{Answered}
-use Rattle.meaning.specs.Reason.{First, CheckRefused, ExpandRefused, ValueRefused, TranslateRefused, JudgeRefused}
+use Rattle.meaning.specs.Reason.{First, CheckRefused, ExpandRefused, ValueRefused, TranslateRefused, WriteRefused, ReadRefused, JudgeRefused}
 
 pub record Demand1 : Type 0 where
   pub check : (s : List ℕ) (A : ℕ) → First (CheckRefused s A) (checkAnswer s A)
@@ -22,6 +23,12 @@ pub record Demand1 : Type 0 where
   pub translate : (s : List ℕ) (A : ℕ) (out : List ℕ) →
       let answer = translateAnswer s A (length out) in
       Answered (TranslateRefused s A (length out)) (answer .refusal) (answer .count) (ruleSize * answer .count) out (translateAfter s A out)
+  pub write-text : (s : List ℕ) (A : ℕ) (out : List ℕ) →
+      let answer = writeAnswer s A (length out) in
+      Answered (WriteRefused s A (length out)) (answer .refusal) (answer .count) (answer .count) out (writeAfter s A out)
+  pub read-text : (t : List ℕ) (A : ℕ) (out : List ℕ) →
+      let answer = readAnswer t A (length out) in
+      Answered (ReadRefused t A (length out)) (answer .refusal) (answer .count) (recordSize * answer .count) out (readAfter t A out)
   -- The judge lends nothing.
   pub judge : (ws : List ℕ) (W L : ℕ) (cells : List ℕ) → First (JudgeRefused ws W L cells) (judgeAnswer ws W L cells .refusal)
   pub judge-no-numbers : (ws : List ℕ) (W L : ℕ) (cells : List ℕ) → judgeAnswer ws W L cells .refusal ≢ 0

@@ -9,12 +9,12 @@ use mathlib.Core.List.{List}
 use mathlib.Core.Option.{some}
 use lib.ListN.{length}
 use Rattle.meaning.specs.Run.{written}
-use Rattle.meaning.specs.Record.{recordSize, mostRecords, count}
+use Rattle.meaning.specs.Record.{recordSize, count}
 use Rattle.meaning.specs.Formula.{Form, formAtoms}
 use Rattle.meaning.specs.Tree.{formAt, formSize, postorder}
 use Rattle.meaning.specs.Text.{spell, textAtoms, mostText, Spells, read, formIn}
 use Rattle.meaning.specs.Service.{Counted, checkAnswer, writeAnswer, writeAfter, readAnswer, readAfter}
-use Rattle.meaning.specs.Examples.{until, Texts}
+use Rattle.meaning.specs.Examples.{Texts}
 
 abbrev pub given : ℕ → Counted
 given n = record { refusal = 0; count = n }

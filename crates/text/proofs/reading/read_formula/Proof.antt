@@ -1,16 +1,12 @@
 -- `reading::read_formula` meets its contract: the buffer begins with the records, which are looked at, and copied where there is room.
 use Prim.Native.Nat.{ℕ, _*_}
 use mathlib.Core.List.{List}
-use mathlib.Core.Path.{_≡_, refl, sym, ap, _∙_}
+use mathlib.Core.Path.{_≡_, refl, sym, ap}
 use native.Mathlib.Omega.{arith}
 use lib.ListN.{length, replicate}
-use lib.Seq.{sets, length-sets}
+use lib.Seq.{length-sets}
 use borrow.Author.Needs.{needs}
 use Rattle.meaning.specs.Record.{recordSize, mostRecords}
-use Rattle.meaning.specs.Tree.{formSize, postorder}
-use Rattle.meaning.specs.Text.{formIn}
-use Rattle.meaning.specs.Refusal.{firstOf}
-use Rattle.text.specs.Texting.{recordsGrounds}
 use Rattle.text.proofs.Storing.{records-refused, records-room, records-stored}
 use Rattle.text.proofs.reading.read_formula.Statement.{statement}
 use Rattle.text.proofs.reading.read_formula.Tie as tie
