@@ -13,7 +13,8 @@ use Rattle.meaning.specs.Refusal.{firstOf, mostAtoms, mostRules, translateGroun
 use Rattle.meaning.specs.Service.{translateAnswer, translateAfter}
 use Rattle.records.proofs.Ranges.{again}
 use Rattle.translate.proofs.RoomGrounds.{accepted}
-use Rattle.listing.specs.Printed.{ascii, spelled, word, line, lineEnd, printed}
+use Rattle.meaning.specs.Text.{ascii}
+use Rattle.listing.specs.Printed.{spelled, word, line, lineEnd, printed}
 
 -- ---- zeros
 abbrev zeros : ℕ → List ℕ

@@ -8,7 +8,7 @@ use Prim.Native.Nat.{_^_, ℕ, zero, suc, _+_, _-_, _/_, _%_, _<_, _≤_}
 use native.Mathlib.Nat.{one-le-pow, pow-le-pow-right, le-refl}
 use Rattle.io.specs.Digits.{glyph, digits, Fewest}
 use Rattle.meaning.proofs.Bounds.{le-or-lt}
-use Rattle.listing.specs.Printed.{decimalIn, decimal}
+use Rattle.meaning.specs.Text.{decimalIn, decimal}
 
 -- The digit of the ones.
 ones : (n : ℕ) → glyph (n % 10) ≡ 48 + n % 10

@@ -1,37 +1,21 @@
 -- Specification, The printing program: what it prints for the record bytes s, over 32 atoms.
---   ascii t       the bytes of the text t
---   decimal n     n in decimal
 --   spelled n end n in decimal and the byte after it
 --   word ws i j   word j of rule i of the words ws, and what parts it from the next
 --   line ws i     the six words of rule i on a line
 --   mostSpelled, mostLine, mostText   the most bytes of a word, of a rule's line, of the text
 --   printed s     a line for each rule, then `rules` and how many; or only `refused` and the number
 use Prim.Native.Char.{code}
-use Prim.Native.Nat.{ℕ, zero, suc, _+_, _*_, _/_, _%_}
-use Prim.Native.String.{String, [] as []ˢ, _∷_ as _∷ˢ_}
+use Prim.Native.Nat.{ℕ, _+_, _*_}
 use mathlib.Core.Bool.{cond}
 use mathlib.Core.List.{List, [], _∷_, _++_}
 use lib.ListN.{length}
-use lib.Dec.{ltb, eqb}
+use lib.Dec.{eqb}
 use Rattle.meaning.specs.Run.{each}
+use Rattle.meaning.specs.Text.{ascii, decimal}
 use Rattle.meaning.specs.Rule.{ruleSize, ruleWord, words}
 use Rattle.meaning.specs.Translation.{translation}
 use Rattle.meaning.specs.Refusal.{firstOf, mostAtoms, mostRules, translateGrounds}
 use Rattle.meaning.specs.Service.{accepted}
-
-abbrev pub ascii : String → List ℕ
-ascii []ˢ = []
-ascii (c ∷ˢ t) = code c ∷ ascii t
-
--- ---- numbers
--- The digits of the tens, if there are any, and then that of the ones; m digits at most.
-unfoldable pub decimalIn : ℕ → ℕ → List ℕ
-decimalIn zero n = []
-decimalIn (suc m) n = cond (ltb n 10) [] (decimalIn m (n / 10)) ++ ((code "0" + n % 10) ∷ [])
-
--- No number n has more than n + 1 digits.
-unfoldable pub decimal : ℕ → List ℕ
-decimal n = decimalIn (suc n) n
 
 unfoldable pub spelled : ℕ → ℕ → List ℕ
 spelled n end = decimal n ++ (end ∷ [])

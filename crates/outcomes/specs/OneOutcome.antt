@@ -17,6 +17,7 @@ use borrow.Fn.Kinds.{PK, RK, Dens, Out, resT, endedOf}
 use Rattle.three.proofs as three
 use Rattle.records.proofs.layout as layout
 use Rattle.shapes.proofs as shapes
+use Rattle.copying.proofs as copying
 use Rattle.checks.proofs as checks
 use Rattle.checks.proofs.refusal as refusal
 use Rattle.paths.proofs.stars as stars
@@ -31,6 +32,10 @@ use Rattle.squares.proofs as squares
 use Rattle.joining.proofs as joining
 use Rattle.closing.proofs as closing
 use Rattle.tables.proofs as tables
+use Rattle.parsing.proofs as parsing
+use Rattle.spelling.proofs as spelling
+use Rattle.text.proofs.writing as writes
+use Rattle.text.proofs.reading as reads
 use Rattle.value.proofs as value
 use Rattle.judge.proofs as judge
 use Rattle.translate.proofs as translate
@@ -71,6 +76,8 @@ pub record OneOutcome : Type 0 where
   pub use-b : OneFits shapes.use_b.Kinds.ps shapes.use_b.Kinds.r shapes.use_b.Reads.Post
   pub sort-of : OneFits shapes.sort_of.Kinds.ps shapes.sort_of.Kinds.r shapes.sort_of.Reads.Post
   pub takes : OneFits shapes.takes.Kinds.ps shapes.takes.Kinds.r shapes.takes.Reads.Post
+  -- copying
+  pub copy : OneFits copying.copy.Kinds.ps copying.copy.Kinds.r copying.copy.Reads.Post
   -- checks
   pub formula-refusal : OneFits refusal.formula_refusal.Kinds.ps refusal.formula_refusal.Kinds.r refusal.formula_refusal.Reads.Post
   pub check : OneFits checks.check.Kinds.ps checks.check.Kinds.r checks.check.Reads.Post
@@ -108,11 +115,18 @@ pub record OneOutcome : Type 0 where
   pub put-constant : OneFits tables.put_constant.Kinds.ps tables.put_constant.Kinds.r tables.put_constant.Reads.Post
   pub put-atom : OneFits tables.put_atom.Kinds.ps tables.put_atom.Kinds.r tables.put_atom.Reads.Post
   pub put-modal : OneFits tables.put_modal.Kinds.ps tables.put_modal.Kinds.r tables.put_modal.Reads.Post
-  -- expand, value, judge, translate, listing
+  -- parsing, spelling
+  pub is-formula : OneFits parsing.is_formula.Kinds.ps parsing.is_formula.Kinds.r parsing.is_formula.Reads.Post
+  pub size-of : OneFits parsing.size_of.Kinds.ps parsing.size_of.Kinds.r parsing.size_of.Reads.Post
+  pub write-records : OneFits parsing.write_records.Kinds.ps parsing.write_records.Kinds.r parsing.write_records.Reads.Post
+  pub spell-formula : OneFits spelling.spell_formula.Kinds.ps spelling.spell_formula.Kinds.r spelling.spell_formula.Reads.Post
+  -- expand, value, judge, translate, text, listing
   pub expand : OneFits expand.expand.Kinds.ps expand.expand.Kinds.r expand.expand.Reads.Post
   pub value : OneFits value.value.Kinds.ps value.value.Kinds.r value.value.Reads.Post
   pub judge : OneFits judge.judge.Kinds.ps judge.judge.Kinds.r judge.judge.Reads.Post
   pub translate : OneFits translate.translate.Kinds.ps translate.translate.Kinds.r translate.translate.Reads.Post
+  pub write-text : OneFits writes.write_text.Kinds.ps writes.write_text.Kinds.r writes.write_text.Reads.Post
+  pub read-text : OneFits reads.read_text.Kinds.ps reads.read_text.Kinds.r reads.read_text.Reads.Post
   pub text : OneFits listing.text.Kinds.ps listing.text.Kinds.r listing.text.Reads.Post
   -- the front door
   pub pasturequill-check :
@@ -125,3 +139,7 @@ pub record OneOutcome : Type 0 where
       OneFits door.pasturequill_translate.Kinds.ps door.pasturequill_translate.Kinds.r door.pasturequill_translate.Reads.Post
   pub pasturequill-judge :
       OneFits door.pasturequill_judge.Kinds.ps door.pasturequill_judge.Kinds.r door.pasturequill_judge.Reads.Post
+  pub pasturequill-write-text :
+      OneFits door.pasturequill_write_text.Kinds.ps door.pasturequill_write_text.Kinds.r door.pasturequill_write_text.Reads.Post
+  pub pasturequill-read-text :
+      OneFits door.pasturequill_read_text.Kinds.ps door.pasturequill_read_text.Kinds.r door.pasturequill_read_text.Reads.Post

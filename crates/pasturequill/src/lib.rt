@@ -3,6 +3,7 @@
 ghost use mathlib.Core.Path.{_≡_};
 ghost use lib.ListN.{length};
 ghost use Rattle.meaning.specs.Service.{checkAnswer, expandAnswer, expandAfter, valueAnswer, valueAfter, translateAnswer, translateAfter, judgeAnswer};
+ghost use Rattle.meaning.specs.Service.{writeAnswer, writeAfter, readAnswer, readAfter};
 use judge::Judged;
 use refusals::Counted;
 use value::Valued;
@@ -65,4 +66,24 @@ pub extern "C" fn pasturequill_judge(
     ensures instant { λ v. ⌜ v .instant ≡ judgeAnswer (now (rules .entry)) width instants (now (cells .entry)) .instant ⌝ }
 {
     judge::judge(rules, width, instants, cells)
+}
+
+// Write text: the number of bytes of the formula's text, and in the output this text.
+#[no_mangle]
+pub extern "C" fn pasturequill_write_text(records: &[u8], atoms: u64, text: &mut [u8]) -> Counted
+    ensures refusal { λ v. ⌜ v .refusal ≡ writeAnswer (now (records .entry)) atoms (length (now (text .entry))) .refusal ⌝ }
+    ensures count { λ v. ⌜ v .count ≡ writeAnswer (now (records .entry)) atoms (length (now (text .entry))) .count ⌝ }
+    ensures bytes { λ v. ⌜ now (text .exit) ≡ writeAfter (now (records .entry)) atoms (now (text .entry)) ⌝ }
+{
+    text::writing::write_text(records, atoms, text)
+}
+
+// Read text: the number of records of the formula whose text this is, and in the output these records in postorder.
+#[no_mangle]
+pub extern "C" fn pasturequill_read_text(text: &[u8], atoms: u64, records: &mut [u8]) -> Counted
+    ensures refusal { λ v. ⌜ v .refusal ≡ readAnswer (now (text .entry)) atoms (length (now (records .entry))) .refusal ⌝ }
+    ensures count { λ v. ⌜ v .count ≡ readAnswer (now (text .entry)) atoms (length (now (records .entry))) .count ⌝ }
+    ensures bytes { λ v. ⌜ now (records .exit) ≡ readAfter (now (text .entry)) atoms (now (records .entry)) ⌝ }
+{
+    text::reading::read_text(text, atoms, records)
 }
