@@ -16,7 +16,8 @@ static inline const char *refusal_name(uint8_t refusal)
         [PASTUREQUILL_WRONG_SIZE] = "wrong size",     [PASTUREQUILL_WRONG_CELL] = "wrong cell",
         [PASTUREQUILL_NO_ROOM] = "no room",           [PASTUREQUILL_STAR_STANDS] = "star stands",
         [PASTUREQUILL_STAR_TURNS] = "star turns",     [PASTUREQUILL_WRONG_RULES] = "wrong rules",
-        [PASTUREQUILL_TOO_LONG] = "too long",
+        [PASTUREQUILL_TOO_LONG] = "too long",         [PASTUREQUILL_NO_SIGN] = "no sign",
+        [PASTUREQUILL_NOT_THE_FORM] = "not the form",
     };
     return names[refusal];
 }

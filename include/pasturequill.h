@@ -39,7 +39,7 @@ extern "C" {
 #endif
 
 /* The number of the last change request that is in this edition. */
-enum { PASTUREQUILL_EDITION = 0 };
+enum { PASTUREQUILL_EDITION = 1 };
 
 /* ---- a record's bytes: where its kind is, its zero byte, and the low bytes of its fields, whose high bytes follow */
 enum { PASTUREQUILL_KIND = 0, PASTUREQUILL_ZERO = 1, PASTUREQUILL_FIELD_A = 2, PASTUREQUILL_FIELD_B = 4 };
@@ -49,6 +49,7 @@ enum {
     PASTUREQUILL_RECORD_SIZE = 6,    /* bytes of one record */
     PASTUREQUILL_MOST_RECORDS = 255, /* records of one formula */
     PASTUREQUILL_MOST_RECORD_BYTES = PASTUREQUILL_RECORD_SIZE * PASTUREQUILL_MOST_RECORDS,
+    PASTUREQUILL_MOST_TEXT = 1530,   /* bytes of one formula as text that are read; none that is written has more */
     PASTUREQUILL_MOST_ATOMS = 32,
     PASTUREQUILL_MOST_INSTANTS = 32,
     PASTUREQUILL_RULE_SIZE = 6,     /* words of one rule */
@@ -106,7 +107,9 @@ enum {
     PASTUREQUILL_STAR_STANDS = 11, /* a star's body may stand still (translating only) */
     PASTUREQUILL_STAR_TURNS = 12,  /* a star's body has step and back step (translating only) */
     PASTUREQUILL_WRONG_RULES = 13, /* a part of a rule, too many rules, no such place or symbol, a mark out of place */
-    PASTUREQUILL_TOO_LONG = 14     /* the formula written out has too many records (expanding only) */
+    PASTUREQUILL_TOO_LONG = 14,    /* a formula that comes out has too many records, or its text too many bytes */
+    PASTUREQUILL_NO_SIGN = 18,     /* a back step, which text has no sign for (writing text only) */
+    PASTUREQUILL_NOT_THE_FORM = 19 /* text that is not a formula in the one form (reading text only) */
 };
 
 /* Whether the bytes are the records of a formula over so many atoms, numbered from 0.
@@ -123,7 +126,8 @@ uint8_t pasturequill_check(const uint8_t *records, size_t records_size, uint64_t
  * <(F? ; step)*>G; F since G <(back ; F?)*>G. */
 typedef struct {
     uint8_t refusal; /* 0, or the number of the first refusal that applies */
-    uint64_t count;  /* how many were written, records by expand and rules by translate; 0 on a refusal */
+    uint64_t count;  /* how many were written: records by expand and read_text, bytes by write_text, rules by
+                        translate; 0 on a refusal */
 } pasturequill_counted;
 
 /* The records of a formula in core kinds, in postorder: those of a, those of b, then the parent.
@@ -134,6 +138,30 @@ typedef struct {
  * 14; 10. */
 pasturequill_counted pasturequill_expand(const uint8_t *records, size_t records_size, uint64_t atoms, uint8_t *out,
                                          size_t out_size);
+
+/* ---- text
+ * A formula in the signs of telingo, in one form: without blanks, and in round brackets exactly where these are here.
+ *     F   #false   #true   p0 to p31, the atoms   (P.>?F) a diamond   (P.>*F) a box
+ *     P   &t the step   ?F a test   *P a star   (P+P) a choice   (P;P) a sequence
+ * An atom's number has no leading zeros. A back step has no sign. <(p0?;step)*>p1 is (*(?p0;&t).>?p1). A formula that
+ * was written is read as the same tree, its records in postorder; one that was read is written as the same bytes. */
+
+/* The text of a formula, without a zero at its end.
+ *   records, records_size   any bytes
+ *   atoms                   any number; 0 to 32 are taken
+ *   text, text_size         the text is written at its start, the rest stays; on a refusal all stays
+ * Gives the first refusal that applies: 1; 8; for each record from the first 2, 3, 4, 5, 6; 6 for the last record; 7;
+ * 18; 10. */
+pasturequill_counted pasturequill_write_text(const uint8_t *records, size_t records_size, uint64_t atoms,
+                                             uint8_t *text, size_t text_size);
+
+/* The records of the formula that a text is, in postorder: those of a, those of b, then the parent.
+ *   text, text_size         any bytes; all of them must be the formula
+ *   atoms                   any number; 0 to 32 are taken
+ *   records, records_size   the records are written at its start, the rest stays; on a refusal all stays
+ * Gives the first refusal that applies: 8; 14 for over 1,530 bytes; 19; 14 for over 255 records; 5; 10. */
+pasturequill_counted pasturequill_read_text(const uint8_t *text, size_t text_size, uint64_t atoms, uint8_t *records,
+                                            size_t records_size);
 
 /* ---- value
  * A trace has instants 1 to 32, and a row of `atoms` cells for each: 0 false, 1 true there only, 2 true here. The table

@@ -11,12 +11,6 @@ use shared::*;
 
 // ---- the expansion (Specification, Records)
 
-/// A formula or path of core kinds alone.
-struct Core { kind: u8, atom: usize, parts: Vec<Core> }
-
-fn leaf(kind: u8) -> Core { Core { kind, atom: 0, parts: vec![] } }
-fn one(kind: u8, part: Core) -> Core { Core { kind, atom: 0, parts: vec![part] } }
-fn two(kind: u8, first: Core, second: Core) -> Core { Core { kind, atom: 0, parts: vec![first, second] } }
 fn test(f: Core) -> Core { one(TEST, f) }
 fn star(p: Core) -> Core { one(STAR, p) }
 fn some(p: Core, f: Core) -> Core { two(DIAMOND, p, f) }
@@ -29,7 +23,7 @@ fn core(formula: &Formula, r: usize) -> Core {
     let b = || core(formula, formula.b(r));
     match kind {
         FALSE | TRUE | STEP | BACK => leaf(kind),
-        ATOM => Core { atom: formula.a(r), ..leaf(ATOM) },
+        ATOM => core_atom(formula.a(r)),
         TEST | STAR => one(kind, a()),
         DIAMOND | BOX | CHOICE | SEQUENCE => two(kind, a(), b()),
         NOT => all(test(a()), leaf(FALSE)),
@@ -52,20 +46,8 @@ fn core(formula: &Formula, r: usize) -> Core {
     }
 }
 
-/// Writes the records of the first part, of the second, and then the tree's own; gives the number of the last.
-fn write(tree: &Core, records: &mut Vec<Record>) -> usize {
-    let parts: Vec<usize> = tree.parts.iter().map(|part| write(part, records)).collect();
-    let part = |i: usize| parts.get(i).copied();
-    records.push(record(tree.kind, part(0).unwrap_or(tree.atom), part(1).unwrap_or(0)));
-    records.len() - 1
-}
-
 /// The records that come out, too many of them too, for a formula that is a tree.
-fn expansion(formula: &Formula) -> Vec<Record> {
-    let mut records = vec![];
-    write(&core(formula, formula.count() - 1), &mut records);
-    records
-}
+fn expansion(formula: &Formula) -> Vec<Record> { core(formula, formula.count() - 1).records() }
 
 // ---- what is refused (Specification, Refusals)
 

@@ -10,22 +10,26 @@
 /* ---- grounds */
 /* What an input may be refused for, in the order in which it is looked at; two of its records may be at fault. */
 enum ground {
-    LENGTH, SIZES, FIRST_RECORD, SECOND_RECORD, LAST_RECORD, TREE, TURNS, STANDS, TOO_LONG, RULES, CELLS, ROOM, GROUNDS
+    LENGTH, SIZES, LONG_TEXT, FORM, FIRST_RECORD, SECOND_RECORD, LAST_RECORD, TREE, SIGN, TURNS, STANDS, TOO_LONG,
+    TEXT_ATOM, RULES, CELLS, ROOM, GROUNDS
 };
 
 /* For a record at fault this is the first of five refusals. */
 static const int refusals[GROUNDS] = {
     [LENGTH] = PASTUREQUILL_WRONG_LENGTH,        [SIZES] = PASTUREQUILL_WRONG_SIZE,
+    [LONG_TEXT] = PASTUREQUILL_TOO_LONG,         [FORM] = PASTUREQUILL_NOT_THE_FORM,
     [FIRST_RECORD] = PASTUREQUILL_UNKNOWN_KIND,  [SECOND_RECORD] = PASTUREQUILL_UNKNOWN_KIND,
     [LAST_RECORD] = PASTUREQUILL_WRONG_SORT,     [TREE] = PASTUREQUILL_NOT_A_TREE,
-    [TURNS] = PASTUREQUILL_STAR_TURNS,           [STANDS] = PASTUREQUILL_STAR_STANDS,
-    [TOO_LONG] = PASTUREQUILL_TOO_LONG,          [RULES] = PASTUREQUILL_WRONG_RULES,
+    [SIGN] = PASTUREQUILL_NO_SIGN,               [TURNS] = PASTUREQUILL_STAR_TURNS,
+    [STANDS] = PASTUREQUILL_STAR_STANDS,         [TOO_LONG] = PASTUREQUILL_TOO_LONG,
+    [TEXT_ATOM] = PASTUREQUILL_NO_SUCH_ATOM,     [RULES] = PASTUREQUILL_WRONG_RULES,
     [CELLS] = PASTUREQUILL_WRONG_CELL,           [ROOM] = PASTUREQUILL_NO_ROOM,
 };
 
 /* The ways to be at fault by a ground, counted from 1; most grounds have one. */
 enum { RECORD_FAULTS = PASTUREQUILL_WRONG_SORT - PASTUREQUILL_UNKNOWN_KIND + 1 };
 enum { TOO_WIDE = 1, NO_INSTANTS, TOO_MANY_INSTANTS, CELL_MISSING, CELL_MORE };
+enum { BLANK_BEFORE = 1, BRACKET_MISSING, SIGN_BEHIND, LEADING_ZERO };
 enum { WORD_MORE = 1, RULE_MORE, NO_PLACE, SYMBOL_PAST, PREVIOUS_ELSEWHERE, PREVIOUS_CONSTANT };
 
 static int record_refusal(int way) { return PASTUREQUILL_UNKNOWN_KIND + way - 1; }
@@ -98,13 +102,14 @@ static void put_fault(struct formula *f, size_t r, int way)
 
 /* <(true? ; step ; step)* ; true?>true, which is worth 2, and has 30 rules. */
 enum { CORE_RULES = 30 };
+static const char core_text[] = "((*((?#true;&t);&t);?#true).>?#true)";
 
 static struct formula core(const int *faults)
 {
     struct formula f = {.n = 0};
     uint8_t joint = faults[STANDS] ? PASTUREQUILL_CHOICE : PASTUREQUILL_SEQUENCE;
     size_t zeroth = yes(&f), first = yes(&f), second = yes(&f), tested = test(&f, zeroth);
-    size_t on = step(&f), further = faults[TURNS] ? back(&f) : step(&f);
+    size_t on = step(&f), further = faults[TURNS] || faults[SIGN] ? back(&f) : step(&f);
     size_t pass = add(&f, joint, tested, on), body = add(&f, joint, pass, further), path = star(&f, body);
     size_t way = sequence(&f, path, test(&f, faults[TREE] ? zeroth : first));
     add(&f, faults[LAST_RECORD] ? PASTUREQUILL_STAR : PASTUREQUILL_DIAMOND, way, faults[LAST_RECORD] ? 0 : second);
@@ -205,6 +210,37 @@ static void translate(const struct attempt *a)
     expect_written(a, rules, sizeof *rules * room, sizeof *rules * needed);
 }
 
+static void write_text(const struct attempt *a)
+{
+    struct formula f = core(a->faults);
+    struct bytes records = handed(&f, a);
+    size_t needed = strlen(core_text), room = needed - (a->faults[ROOM] != 0);
+    uint8_t *text = guarded_fresh(room, a->edge);
+    pasturequill_counted got = pasturequill_write_text(records.at, records.size, atoms(a), text, room);
+    expect_answer(a, got.refusal, got.count, needed);
+    expect_written(a, text, room, needed);
+}
+
+/* Stars over a step, and an atom: as many records as there may be, or one more, or so many that the text is too long. */
+static void read_text(const struct attempt *a)
+{
+    enum { STARS = MOST_RECORDS - 3, LONG_STARS = PASTUREQUILL_MOST_TEXT };
+    const int *faults = a->faults, form = faults[FORM];
+    size_t stars = faults[LONG_TEXT] ? LONG_STARS : STARS + (faults[TOO_LONG] != 0);
+    char text[LONG_STARS + 32], path[LONG_STARS + 1];
+    memset(path, '*', stars);
+    path[stars] = 0;
+    int size = sprintf(text, "%s(%s&t.>?p%s%d%s%s", form == BLANK_BEFORE ? " " : "", path,
+                       form == LEADING_ZERO ? "0" : "", ATOMS - 1 + (faults[TEXT_ATOM] != 0),
+                       form == BRACKET_MISSING ? "" : ")", form == SIGN_BEHIND ? ")" : "");
+    size_t needed = RECORD_SIZE * (stars + 3), room = needed - (faults[ROOM] != 0);
+    uint8_t *records = guarded_fresh(room, a->edge);
+    const uint8_t *in = guarded((const uint8_t *)text, (size_t)size, a->edge);
+    pasturequill_counted got = pasturequill_read_text(in, (size_t)size, atoms(a), records, room);
+    expect_answer(a, got.refusal, got.count, MOST_RECORDS);
+    expect_written(a, records, room, needed);
+}
+
 /* As many rules as there may be. All of them hold, or the first one fails; the last one may be at fault. */
 static struct words rules_by(const struct attempt *a, int fails)
 {
@@ -253,6 +289,9 @@ static const struct service {
     {"expand", expand, {RECORDS_AT_FAULT, [SIZES] = 1, [TOO_LONG] = 1, [ROOM] = 1}},
     {"value", value, {RECORDS_AT_FAULT, [SIZES] = CELL_MORE, [CELLS] = 1, [ROOM] = 1}},
     {"translate", translate, {RECORDS_AT_FAULT, [SIZES] = 1, [TURNS] = 1, [STANDS] = 1, [ROOM] = 1}},
+    {"write text", write_text, {RECORDS_AT_FAULT, [SIZES] = 1, [SIGN] = 1, [ROOM] = 1}},
+    {"read text", read_text,
+     {[SIZES] = 1, [LONG_TEXT] = 1, [FORM] = LEADING_ZERO, [TOO_LONG] = 1, [TEXT_ATOM] = 1, [ROOM] = 1}},
     {"judge", judge, {[SIZES] = CELL_MORE, [RULES] = PREVIOUS_CONSTANT, [CELLS] = 1}},
 };
 
@@ -260,7 +299,7 @@ static void every_set(const struct service *s)
 {
     int faults[GROUNDS] = {0};
     do {
-        char reason[64];
+        char reason[96];
         int end = snprintf(reason, sizeof reason, "%s, faults by ground", s->name);
         for (int g = 0; g < GROUNDS; g++)
             end += snprintf(reason + end, sizeof reason - (size_t)end, " %d", faults[g]);

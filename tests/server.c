@@ -7,7 +7,7 @@
 #include "guarded.h"
 #include "pasturequill.h"
 
-enum service { CHECK, EXPAND, VALUE, TRANSLATE, JUDGE };
+enum service { CHECK, EXPAND, VALUE, TRANSLATE, JUDGE, WRITE_TEXT, READ_TEXT };
 
 /* A service takes at most two numbers and three slices, in the order of its declaration; what it does not take is 0. */
 enum { NUMBERS = 2, SLICES = 3, RESULTS = 4 };
@@ -72,6 +72,8 @@ static struct answer called(uint64_t service, const uint64_t *n, const struct sl
         return counted(pasturequill_translate(s[0].at, s[0].size, n[0], words(s[1]), word_count(s[1])));
     case JUDGE:
         return judged(pasturequill_judge(words(s[0]), word_count(s[0]), n[0], n[1], s[1].at, s[1].size));
+    case WRITE_TEXT: return counted(pasturequill_write_text(s[0].at, s[0].size, n[0], s[1].at, s[1].size));
+    case READ_TEXT: return counted(pasturequill_read_text(s[0].at, s[0].size, n[0], s[1].at, s[1].size));
     }
     must(0, "no such service");
     return (struct answer){0};

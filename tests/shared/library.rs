@@ -8,7 +8,7 @@ use std::process::{Child, ChildStdin, ChildStdout, Command, Stdio};
 
 /// The services, numbered as server.c has them.
 #[derive(Clone, Copy)]
-pub enum Service { Check, Expand, Value, Translate, Judge }
+pub enum Service { Check, Expand, Value, Translate, Judge, WriteText, ReadText }
 
 const SLICES: usize = 3;
 const RESULTS: usize = 4;

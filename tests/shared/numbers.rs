@@ -6,7 +6,7 @@ macro_rules! numbers {
 
 // ---- sizes
 numbers!(usize: RECORD_SIZE = 6, MOST_RECORDS = 255, MOST_RECORD_BYTES = RECORD_SIZE * MOST_RECORDS);
-numbers!(usize: MOST_ATOMS = 32, MOST_INSTANTS = 32, MOST_COLUMNS = 287);
+numbers!(usize: MOST_TEXT = 1530, MOST_ATOMS = 32, MOST_INSTANTS = 32, MOST_COLUMNS = 287);
 numbers!(usize: RULE_SIZE = 6, MOST_RULES = 1021, MOST_RULE_WORDS = RULE_SIZE * MOST_RULES);
 
 // ---- kinds
@@ -23,11 +23,11 @@ numbers!(u16: AT_EVERY = 0, AT_FIRST = 1, AT_LATER = 2, AT_LAST = 3);
 numbers!(u16: SYMBOL_FALSE = 0, SYMBOL_TRUE = 1, SYMBOL_COLUMN = 2);
 numbers!(u16: MARK_PREVIOUS = 16_384, MARK_NOT = 32_768);
 
-/// What is given back, numbered from 0.
+/// What is given back, numbered from 0 but for the last two.
 #[derive(Clone, Copy, PartialEq, Debug)]
 pub enum Refusal {
     Accepted, WrongLength, UnknownKind, NotZero, LateChild, NoSuchAtom, WrongSort, NotATree, WrongSize, WrongCell,
-    NoRoom, StarStands, StarTurns, WrongRules, TooLong,
+    NoRoom, StarStands, StarTurns, WrongRules, TooLong, NoSign = 18, NotTheForm = 19,
 }
 
 pub use Refusal::*;
