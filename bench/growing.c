@@ -25,6 +25,8 @@ static struct size with_instants(size_t instants) { return (struct size){MOST_RE
 static struct subject {
     size_t instants;
     struct formula core, brief; /* the same formula in core records and in shorthands */
+    uint8_t text[PASTUREQUILL_MOST_TEXT]; /* and as text */
+    size_t text_size;
     uint8_t cells[ATOMS * MOST_INSTANTS];
     struct filled filled;
 } subject;
@@ -53,6 +55,12 @@ static void put_brief(struct formula *f, size_t n)
     }
 }
 
+/* The text of a formula; gives its size. */
+static size_t write_to(const struct formula *f, uint8_t *text)
+{
+    return (size_t)pasturequill_write_text(f->records, size_of(f), ATOMS, text, PASTUREQUILL_MOST_TEXT).count;
+}
+
 /* The formula, a trace, and as many rules as so many records may have, over as many columns as they may ask for. */
 static void build(struct size size)
 {
@@ -61,6 +69,7 @@ static void build(struct size size)
     subject.filled = (struct filled){.rules = 4 * n + 1, .width = ATOMS + n, .instants = instants};
     put_core(&subject.core, n);
     put_brief(&subject.brief, n);
+    subject.text_size = write_to(&subject.core, subject.text);
     for (size_t c = 0; c < ATOMS * instants; c++)
         subject.cells[c] = (uint8_t)below(3);
     fill(&subject.filled);
@@ -76,6 +85,18 @@ static int expand(const struct subject *s)
 {
     static uint8_t out[MOST_BYTES];
     return pasturequill_expand(s->brief.records, size_of(&s->brief), ATOMS, out, sizeof out).count == s->core.n;
+}
+
+static int write_text(const struct subject *s)
+{
+    static uint8_t text[PASTUREQUILL_MOST_TEXT];
+    return write_to(&s->core, text) > s->core.n;
+}
+
+static int read_text(const struct subject *s)
+{
+    static uint8_t out[MOST_BYTES];
+    return pasturequill_read_text(s->text, s->text_size, ATOMS, out, sizeof out).count == s->core.n;
 }
 
 static int translate(const struct subject *s)
@@ -99,7 +120,7 @@ static int judge(const struct subject *s)
     return pasturequill_judge(f->words, RULE_SIZE * f->rules, f->width, f->instants, f->cells, cells).holds;
 }
 
-enum { CHECK, EXPAND, TRANSLATE, VALUE, JUDGE, SERVICES, WITH_TRACE = VALUE };
+enum { CHECK, EXPAND, WRITE_TEXT, READ_TEXT, TRANSLATE, VALUE, JUDGE, SERVICES, WITH_TRACE = VALUE };
 
 static const struct service {
     const char *name, *takes;
@@ -107,6 +128,8 @@ static const struct service {
 } services[SERVICES] = {
     [CHECK] = {"check", "untils inside untils", check},
     [EXPAND] = {"expand", "the same in shorthands, n out", expand},
+    [WRITE_TEXT] = {"write text", "untils, 2.5n to 2.7n bytes", write_text},
+    [READ_TEXT] = {"read text", "the same text", read_text},
     [TRANSLATE] = {"translate", "untils inside untils", translate},
     [VALUE] = {"value", "untils inside untils", value},
     [JUDGE] = {"judge", "4n + 1 rules, 32 + n columns", judge},

@@ -43,6 +43,12 @@ static inline void moves_in_sequence(struct formula *f)
     diamond(f, p, atom(f, 0));
 }
 
+static inline void steps_in_a_row(struct formula *f)
+{
+    size_t p = joined(f, sequence, step);
+    diamond(f, p, yes(f));
+}
+
 static inline void moves_in_choice(struct formula *f)
 {
     size_t p = joined(f, choice, back);
@@ -58,6 +64,13 @@ static inline void stars_of_stars(struct formula *f)
 static inline void negations(struct formula *f)
 {
     negated(f, atom(f, 0));
+}
+
+static inline void modalities(struct formula *f)
+{
+    size_t g = atom(f, 0);
+    while (left(f) >= 2)
+        g = box(f, step(f), g);
 }
 
 #endif

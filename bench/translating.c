@@ -35,12 +35,6 @@ static void choice_of_tests(struct formula *f)
     box(f, path, yes(f));
 }
 
-static void steps_in_a_row(struct formula *f)
-{
-    size_t path = joined(f, sequence, step);
-    diamond(f, path, yes(f));
-}
-
 /* Tests and steps in a row under one star, and eventually an atom after it. */
 static void long_until(struct formula *f)
 {
