@@ -116,8 +116,6 @@ static size_t stack_taken(void *(*make)(void *), void *call)
 }
 
 /* ---- text */
-typedef pasturequill_counted texting(const uint8_t *in, size_t in_size, uint64_t atoms, uint8_t *out, size_t out_size);
-
 struct text_call {
     texting *make;
     uint8_t in[MOST_BYTES], out[MOST_BYTES];

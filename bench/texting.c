@@ -17,8 +17,6 @@ enum { ATOMS = PASTUREQUILL_MOST_ATOMS, MOST_TEXT = PASTUREQUILL_MOST_TEXT };
 enum { PEER, LIBRARY, CONTENDERS };
 enum { WRITE, READ, SERVICES };
 
-typedef pasturequill_counted texting(const uint8_t *in, size_t in_size, uint64_t atoms, uint8_t *out, size_t out_size);
-
 static texting *const by[SERVICES][CONTENDERS] = {
     [WRITE] = {write_text_checked, pasturequill_write_text},
     [READ] = {read_text_checked, pasturequill_read_text},

@@ -1,5 +1,5 @@
 /* Calls of a service that writes and counts. Whoever includes this says which: SERVICE is its function, ELEMENT what
- * its room is made of, EACH how many of these a record or a rule has, and ROOMS what room each refusal is tried in. */
+ * its room is made of, EACH how many of these one has of what it counts, and ROOMS what room each refusal is tried in. */
 #ifndef COUNTED_H
 #define COUNTED_H
 

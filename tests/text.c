@@ -187,13 +187,13 @@ static const struct bytes not_the_form[] = {
 
     /* a formula in a path's place, a path in a formula's, a path alone */
     TEXT("(p0.>?p1)"), TEXT("(#true.>?p1)"), TEXT("((&t.>?p0).>?p1)"), TEXT("(*p0.>?p1)"), TEXT("((&t;p0).>?p1)"),
-    TEXT("((p0;&t).>?p1)"), TEXT("(&t.>?&t)"), TEXT("(&t.>??p0)"), TEXT("(&t.>?(&t;&t))"), TEXT("(?&t.>?p0)"),
+    TEXT("((p0;&t).>?p1)"), TEXT("(&t.>?&t)"), TEXT("(&t.>?(&t;&t))"), TEXT("(?&t.>?p0)"),
     TEXT("&t"), TEXT("*&t"), TEXT("?p0"), TEXT("(&t;&t)"), TEXT("(&t+&t)"), TEXT("*(&t;&t)"),
 
     /* text behind the formula, and signs that telingo has besides */
     TEXT("p0p1"), TEXT("p0)"), TEXT("p0."), TEXT("#truep0"), TEXT("#true#true"), TEXT("(&t.>?p0)p0"),
     TEXT("(&t.>?p0)."), TEXT("(&t.>?p0)(&t.>?p0)"), TEXT("(&t.>?p0).>?p1)"), TEXT("p0.>?p1"), TEXT("~p0"),
-    TEXT("p0&p1"), TEXT("p0|p1"), TEXT(">p0"), TEXT("&final"), TEXT("(&t.<?p0)"), TEXT("-p0"), TEXT("(p0)"),
+    TEXT("p0&p1"), TEXT("p0|p1"), TEXT(">p0"), TEXT("&final"), TEXT("(&t.<?p0)"), TEXT("-p0"),
 };
 
 /* One of many texts outside the form. */
@@ -206,7 +206,7 @@ static void expect_other(const char *reason, struct bytes text)
 /* Numbers that are no atom's. */
 static void other_numbers(void)
 {
-    char text[8];
+    char text[16];
     for (int i = 0; i < 1000; i++) {
         snprintf(text, sizeof text, i < MOST_ATOMS ? "p0%d" : "p%d", i);
         expect_other(text, bytes_of_text(text));
@@ -254,7 +254,7 @@ static void every_atom(void)
     for (int i = 0; i < MOST_ATOMS; i++) {
         struct formula f = {.n = 0};
         atom(&f, (size_t)i);
-        char text[8];
+        char text[16];
         snprintf(text, sizeof text, "p%d", i);
         expect_both(text, bytes_of(&f), (uint64_t)i + 1, bytes_of_text(text));
         expect_unread(text, bytes_of_text(text), (uint64_t)i, PASTUREQUILL_NO_SUCH_ATOM);
@@ -296,8 +296,7 @@ static void expect_deepest(const struct deep *d)
     struct formula f = written("pqr", repeated(d->times, &d->formula));
     struct bytes text = bytes_of_text(repeated(d->times, &d->text));
     count(f.n == MOST_RECORDS, d->reason, "records", f.n, MOST_RECORDS);
-    count(text.size <= LONGEST_TEXT, d->reason, "bytes", text.size, LONGEST_TEXT);
-    count(d != deepest || text.size == LONGEST_TEXT, d->reason, "bytes", text.size, LONGEST_TEXT);
+    count((text.size == LONGEST_TEXT) == (d == deepest), d->reason, "bytes", text.size, LONGEST_TEXT);
     expect_both(d->reason, bytes_of(&f), 2, text);
     set_kind(&f, first_step(&f), PASTUREQUILL_BACK);
     service = &writer;

@@ -1,4 +1,4 @@
-//! What the comparisons of the services that write and count share, expanding and translating: their inputs.
+//! What the comparisons of the services over records that write and count share: their inputs.
 
 use super::*;
 
