@@ -6,6 +6,9 @@
 
 enum { MOST_ATOMS = PASTUREQUILL_MOST_ATOMS };
 
+/* How many signs a constant has. */
+#define SIZE(signs) (sizeof signs - 1)
+
 static pasturequill_counted refused(uint8_t refusal) { return (pasturequill_counted){.refusal = refusal}; }
 
 /* ---- writing */
@@ -13,9 +16,12 @@ static pasturequill_counted refused(uint8_t refusal) { return (pasturequill_coun
 static size_t own_bytes(const uint8_t *records, size_t r)
 {
     static const uint8_t sizes[] = {
-        [PASTUREQUILL_FALSE] = 6, [PASTUREQUILL_TRUE] = 5,   [PASTUREQUILL_ATOM] = 2,     [PASTUREQUILL_DIAMOND] = 5,
-        [PASTUREQUILL_BOX] = 5,   [PASTUREQUILL_STEP] = 2,   [PASTUREQUILL_BACK] = 0,     [PASTUREQUILL_TEST] = 1,
-        [PASTUREQUILL_STAR] = 1,  [PASTUREQUILL_CHOICE] = 3, [PASTUREQUILL_SEQUENCE] = 3,
+        [PASTUREQUILL_FALSE] = SIZE("#false"), [PASTUREQUILL_TRUE] = SIZE("#true"),
+        [PASTUREQUILL_ATOM] = SIZE("p0"),      [PASTUREQUILL_DIAMOND] = SIZE("(.>?)"),
+        [PASTUREQUILL_BOX] = SIZE("(.>*)"),    [PASTUREQUILL_STEP] = SIZE("&t"),
+        [PASTUREQUILL_BACK] = SIZE(""),        [PASTUREQUILL_TEST] = SIZE("?"),
+        [PASTUREQUILL_CHOICE] = SIZE("(+)"),   [PASTUREQUILL_SEQUENCE] = SIZE("(;)"),
+        [PASTUREQUILL_STAR] = SIZE("*"),
     };
     uint8_t kind = kind_of(records, r);
     return (size_t)sizes[kind] + (kind == PASTUREQUILL_ATOM && field_a(records, r) >= 10);
@@ -32,8 +38,7 @@ static inline void put(struct writer *w, const char *signs, size_t size)
     w->end += size;
 }
 
-/* Signs of a size that is known here. */
-#define PUT(w, signs) put(w, signs, sizeof signs - 1)
+#define PUT(w, signs) put(w, signs, SIZE(signs))
 
 static void put_atom(struct writer *w, size_t atom)
 {
@@ -55,7 +60,7 @@ static inline void put_pair(struct writer *w, size_t r, const char *signs, size_
     PUT(w, ")");
 }
 
-#define PUT_PAIR(w, r, signs) put_pair(w, r, signs, sizeof signs - 1)
+#define PUT_PAIR(w, r, signs) put_pair(w, r, signs, SIZE(signs))
 
 /* The tree of record r. */
 static void put_tree(struct writer *w, size_t r)
@@ -112,7 +117,7 @@ static inline int passes(struct reader *in, const char *signs, size_t size)
     return 1;
 }
 
-#define PASSES(in, signs) passes(in, signs, sizeof signs - 1)
+#define PASSES(in, signs) passes(in, signs, SIZE(signs))
 
 /* The next sign, 0 at the end. */
 static inline uint8_t next(const struct reader *in) { return in->at < in->end ? *in->at : 0; }
