@@ -5,5 +5,5 @@ macro_rules! parts {
     ($($name:ident),*) => { $(mod $name; pub use $name::*;)* };
 }
 
-parts!(cells, comparison, core, drawing, formulas, harm, inputs, library, numbers, rules, tree);
+parts!(cells, comparison, drawing, formulas, harm, inputs, library, numbers, postorder, rules, tree);
 pub mod counted;
