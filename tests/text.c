@@ -137,10 +137,11 @@ static void expect_refusal(const char *reason, struct bytes in, uint64_t atoms, 
 /* The atoms come before all that is wrong with a text. */
 static void expect_unread(const char *reason, struct bytes text, uint64_t atoms, int refusal)
 {
+    static const uint64_t too_many[] = {MOST_ATOMS + 1, TWO_TO(32), TWO_TO(63), UINT64_MAX};
     service = &reader;
     expect_refusal(reason, text, atoms, refusal);
-    expect_refusal(reason, text, MOST_ATOMS + 1, PASTUREQUILL_WRONG_SIZE);
-    expect_refusal(reason, text, UINT64_MAX, PASTUREQUILL_WRONG_SIZE);
+    for (const uint64_t *more = too_many; more < END(too_many); more++)
+        expect_refusal(reason, text, *more, PASTUREQUILL_WRONG_SIZE);
 }
 
 static void expect_not_the_form(struct bytes text)
