@@ -230,14 +230,14 @@ fn scattered_text(random: &mut Random) -> Vec<u8> {
     drawn.collect::<String>().into()
 }
 
-/// One kind of harm: a byte changed, dropped or doubled, two swapped, a part cut off; or a number far out of range.
+/// One kind of harm: a byte changed, dropped, doubled or put in, two swapped, a part cut off; or to the numbers.
 fn damage_text(random: &mut Random, reading: &mut Reading) {
     let text = &mut reading.text;
     if text.is_empty() {
         return;
     }
     let (at, other) = (random.below(text.len()), random.below(text.len()));
-    match random.below(20) {
+    match random.below(22) {
         0..=4 => text[at] = random.pick(b"#falsetrup0123456789&?*+;().>"),
         5 => text[at] = random.byte(),
         6..=8 => drop(text.remove(at)),
@@ -246,7 +246,8 @@ fn damage_text(random: &mut Random, reading: &mut Reading) {
         14 if at > 0 => text.swap(at, at - 1),
         15 => text.truncate(at),
         16 => drop(text.drain(..at)),
-        17 => reading.atoms = far(random, reading.atoms),
+        17 | 18 => text.insert(random.pick(&[0, at, text.len()]), random.pick(b" \n\t\0\xc8()")),
+        19 => reading.atoms = far(random, reading.atoms),
         _ => reading.room = reading.room.saturating_sub(random.pick(&[1, 1, 1, 2, 5, 6, 7, 12])),
     }
 }
@@ -298,6 +299,8 @@ impl Tried {
     /// Whether a text is refused so that is in the form, or is not.
     fn refused_in_form(&self, refusal: Refusal) -> bool { self.refusal == refusal && self.records > 0 }
     fn refused_outside(&self, refusal: Refusal) -> bool { self.refusal == refusal && self.records == 0 }
+    /// Whether the text is outside the form, and another one is in it.
+    fn outside_unlike(&self, other: &[u8]) -> bool { self.refusal == NotTheForm && tree(other).is_some() }
     fn has(&self, part: &str) -> bool { self.input.windows(part.len()).any(|bytes| bytes == part.as_bytes()) }
 }
 
@@ -310,7 +313,7 @@ const WRITING_CASES: [Case<Tried>; 6] = [
     ("no sign with over 40 records", |t| t.refusal == NoSign && t.records > 40),
 ];
 
-const READING_CASES: [Case<Tried>; 14] = [
+const READING_CASES: [Case<Tried>; 16] = [
     ("accepted in exact room", |t| t.accepted() && t.room == t.needed),
     ("accepted with 255 records", |t| t.accepted() && t.records == MOST_RECORDS),
     ("too long with 256 records", |t| t.refused_in_form(TooLong) && t.records == MOST_RECORDS + 1),
@@ -323,9 +326,9 @@ const READING_CASES: [Case<Tried>; 14] = [
     ("outside the form with 1,530 bytes", |t| t.refusal == NotTheForm && t.input.len() == MOST_TEXT),
     ("outside the form with a number over 31", |t| t.refusal == NotTheForm && (t.has("p32") || t.has("p4"))),
     ("outside the form with a leading zero", |t| t.refusal == NotTheForm && (t.has("p00") || t.has("p01"))),
-    ("outside the form without its last byte", |t| {
-        t.refusal == NotTheForm && tree(&[&t.input[..], b")"].concat()).is_some()
-    }),
+    ("outside the form for want of a last bracket", |t| t.outside_unlike(&[&t.input[..], b")"].concat())),
+    ("outside the form by its first byte", |t| t.outside_unlike(t.input.get(1..).unwrap_or(&[]))),
+    ("outside the form by its last byte", |t| t.outside_unlike(&t.input[..t.input.len().saturating_sub(1)])),
     ("no such atom, and no room", |t| t.refusal == NoSuchAtom && t.room < t.needed),
     ("no room by one byte", |t| t.refusal == NoRoom && t.room == t.needed - 1),
     ("wrong size with text outside the form", |t| t.refused_outside(WrongSize)),
