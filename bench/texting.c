@@ -22,22 +22,33 @@ static texting *const by[SERVICES][CONTENDERS] = {
     [READ] = {read_text_checked, pasturequill_read_text},
 };
 
-/* What one of the services takes, and as much room as any output needs. */
+/* As much room as any output needs. */
+enum { ROOM = MOST_BYTES };
+
+/* What one of the services takes. */
 struct work {
     const char *name;
     int service;
-    uint8_t in[MOST_TEXT + 2];
-    size_t size;
+    size_t atoms, room, size;
+    uint8_t in[MOST_TEXT + 2]; /* damaged text may have two bytes more */
 };
 
-enum { ROOM = MOST_BYTES };
+static struct work work_of(const char *name, int service, size_t size)
+{
+    return (struct work){name, service, ATOMS, ROOM, size, {0}};
+}
+
+static pasturequill_counted call(int contender, const struct work *w, uint8_t *out)
+{
+    return by[w->service][contender](w->in, w->size, w->atoms, out, w->room);
+}
 
 static void run(int contender, const void *work, size_t rounds)
 {
     static uint8_t out[ROOM];
     const struct work *w = work;
     for (size_t i = 0; i < rounds; i++)
-        by[w->service][contender](w->in, w->size, ATOMS, out, ROOM);
+        call(contender, w, out);
 }
 
 static struct comparison comparisons[SERVICES] = {
@@ -102,7 +113,7 @@ static pasturequill_counted by_both(const struct work *w, uint8_t *out)
     pasturequill_counted got[CONTENDERS];
     memset(outs, UINT8_MAX, sizeof outs);
     for (int c = 0; c < CONTENDERS; c++)
-        got[c] = by[w->service][c](w->in, w->size, ATOMS, outs[c], ROOM);
+        got[c] = call(c, w, outs[c]);
     if (got[PEER].refusal != got[LIBRARY].refusal || got[PEER].count != got[LIBRARY].count ||
         memcmp(outs[PEER], outs[LIBRARY], ROOM) != 0) {
         fprintf(stderr, "%s: the peer gives refusal %d and counts %zu, the library %d and %zu, or writes otherwise\n",
@@ -142,8 +153,8 @@ static void damage_records(struct work *w)
     memcpy(w->in, f.records, w->size);
 }
 
-/* Stops unless both give the refusal that is expected, and the same where bytes are changed; then compares their times.
- * Gives what was written. */
+/* Stops unless both give the refusal that is expected, and the same where bytes are changed, and the atoms and the room
+ * too; then compares their times. Gives the count. */
 static size_t agree_and_compare(const struct work *w, uint8_t refusal, uint8_t *out)
 {
     char sizes[64];
@@ -156,6 +167,10 @@ static size_t agree_and_compare(const struct work *w, uint8_t refusal, uint8_t *
     for (int change = 0; change < DAMAGES; change++) {
         struct work harmed = *w;
         (w->service == READ ? damage_text : damage_records)(&harmed);
+        if (change % 2 != 0) {
+            harmed.atoms = below(ATOMS + 2);
+            harmed.room = below(ROOM + 1);
+        }
         by_both(&harmed, other);
     }
     if (w->service == READ)
@@ -169,7 +184,7 @@ static size_t agree_and_compare(const struct work *w, uint8_t refusal, uint8_t *
 /* As much text as is read: a start, the same sign all along, and an end. */
 static void compare_refused(const char *name, const char *start, char sign, const char *end, uint8_t refusal)
 {
-    struct work w = {.name = name, .service = READ, .size = MOST_TEXT};
+    struct work w = work_of(name, READ, MOST_TEXT);
     uint8_t out[ROOM];
     memset(w.in, sign, MOST_TEXT);
     memcpy(w.in, start, strlen(start));
@@ -187,11 +202,10 @@ int main(void)
     begin_table(&comparisons[WRITE]);
     for (size_t i = 0; i < FORMULAS; i++) {
         struct formula f = {.n = 0};
-        struct work w = {.name = built[i].name, .service = WRITE};
         built[i].build(&f);
-        w.size = size_of(&f);
+        struct work w = work_of(built[i].name, WRITE, size_of(&f));
         memcpy(w.in, f.records, w.size);
-        texts[i] = (struct work){.name = w.name, .service = READ};
+        texts[i] = work_of(w.name, READ, 0);
         texts[i].size = agree_and_compare(&w, PASTUREQUILL_ACCEPTED, texts[i].in);
     }
     end_table(&comparisons[WRITE]);
