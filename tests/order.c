@@ -221,7 +221,7 @@ static void write_text(const struct attempt *a)
     expect_written(a, text, room, needed);
 }
 
-/* Stars over a step, and an atom: as many records as there may be, or one more, or so many that the text is too long. */
+/* Stars over a step, and an atom: as many records as there may be, one more, or so many that the text is too long. */
 static void read_text(const struct attempt *a)
 {
     enum { STARS = MOST_RECORDS - 3, LONG_STARS = PASTUREQUILL_MOST_TEXT };
