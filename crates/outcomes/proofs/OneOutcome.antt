@@ -67,6 +67,19 @@ counted κs a o u p q = λ i. (
   (tt, (tt, (same (p .1 .1) (q .1 .1) i, tt))),
 )
 
+-- Two, and the text, or the records that were read.
+wrote : OneFits door.pasturequill_write_text.Kinds.ps door.pasturequill_write_text.Kinds.r door.pasturequill_write_text.Reads.Post
+wrote κs a o u p q = λ i. (
+  record { refusal = same (p .0) (q .0) i; count = same (p .1 .0) (q .1 .0) i },
+  (tt, (tt, (same (p .1 .1) (q .1 .1) i, tt))),
+)
+
+read : OneFits door.pasturequill_read_text.Kinds.ps door.pasturequill_read_text.Kinds.r door.pasturequill_read_text.Reads.Post
+read κs a o u p q = λ i. (
+  record { refusal = same (p .0) (q .0) i; count = same (p .1 .0) (q .1 .0) i },
+  (tt, (tt, (same (p .1 .1) (q .1 .1) i, tt))),
+)
+
 -- Four, and nothing is lent.
 judged : OneFits door.pasturequill_judge.Kinds.ps door.pasturequill_judge.Kinds.r door.pasturequill_judge.Reads.Post
 judged κs a o u p q = λ i. (
@@ -133,14 +146,14 @@ one-outcome = record {
   value = valued;
   judge = judged;
   translate = counted;
-  write-text = expanded;
-  read-text = expanded;
+  write-text = wrote;
+  read-text = read;
   text = λ κs a o u p q. λ i. (same (p .0) (q .0) i, (tt, (same (p .1) (q .1) i, tt)));
   pasturequill-check = λ κs a o u. alone;
   pasturequill-expand = expanded;
   pasturequill-value = valued;
   pasturequill-translate = counted;
   pasturequill-judge = judged;
-  pasturequill-write-text = expanded;
-  pasturequill-read-text = expanded;
+  pasturequill-write-text = wrote;
+  pasturequill-read-text = read;
 }

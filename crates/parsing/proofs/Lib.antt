@@ -1,0 +1,8 @@
+-- What the proofs of several functions cite.
+pub mod Places
+pub mod Numbers
+pub mod Heads
+pub mod Whole
+pub mod Marks
+pub mod Parts
+pub mod Writing

@@ -1,0 +1,43 @@
+-- Reading by places of a text, instead of by what is left of it.
+--   outside         a place beyond every text, which stands for none
+--   textAt t at     what is left of t from a place on, or none
+--   rest r          what a reading left
+--   Ends t f at e   the reading f, begun at the place `at`, ends at the place e
+--   Deep read t at e   the same at every depth that is enough
+use Prim.Native.Char.{code}
+use Prim.Native.Nat.{ℕ, _+_, _≤_}
+use mathlib.Core.Path.{_≡_}
+use mathlib.Core.Bool.{cond}
+use mathlib.Core.List.{List}
+use mathlib.Core.Option.{Option, none, some}
+use lib.Dec.{leb}
+use lib.ListN.{length, drop}
+use Rattle.meaning.specs.Text.{then, else, after, ascii}
+
+abbrev pub outside : ℕ
+outside = 1_531
+
+-- The digit 0.
+abbrev pub nought : ℕ
+nought = code "0"
+
+-- What follows a constant's sign that begins with #, once that byte is read.
+abbrev pub afterHash : List ℕ → Option (List ℕ)
+afterHash u = else (after (ascii "false") u) (after (ascii "true") u)
+
+unfoldable pub textAt : List ℕ → ℕ → Option (List ℕ)
+textAt t at = cond (leb at (length t)) (some (drop at t)) none
+
+unfoldable pub rest : {T : Type 0} → Option (T × List ℕ) → Option (List ℕ)
+rest none = none
+rest (some (x, u)) = some u
+
+pub record Ends (t : List ℕ) (f : List ℕ → Option (List ℕ)) (at e : ℕ) : Type 0 where
+  pub onward : at ≤ e
+  pub low : e ≤ outside
+  pub there : then (textAt t at) f ≡ textAt t e
+
+pub record Deep {T : Type 0} (read : ℕ → List ℕ → Option (T × List ℕ)) (t : List ℕ) (at e : ℕ) : Type 0 where
+  pub onward : at ≤ e
+  pub low : e ≤ outside
+  pub there : (n : ℕ) → length t ≤ n + at → then (textAt t at) (λ u. rest (read n u)) ≡ textAt t e

@@ -1,0 +1,175 @@
+// Where the parts of a text end. A place beyond every text stands for none, and nothing can be read there: so no step asks whether the
+// one before it failed.
+ghost use mathlib.Core.Path.{_≡_};
+ghost use mathlib.Core.Bool.{Bool, cond, false, true};
+ghost use mathlib.Core.List.{_∷_, []};
+ghost use Prim.Native.Nat.{_+_, _*_, _-_, _<_, _≤_};
+ghost use lib.Dec.{leb};
+ghost use lib.ListN.{length, getD};
+ghost use Rattle.meaning.specs.Text.{mostText, after, digit, twoDigits, number, readNumber, readMode, readJoin, readForm, readPath};
+ghost use Rattle.parsing.specs.Writing.{numberAt};
+ghost use Rattle.parsing.specs.Places.{outside, nought, afterHash, rest, Ends, Deep};
+
+const OUTSIDE: usize = 1531;
+
+// The atoms that text may name.
+const ATOMS: usize = 32;
+
+// 0 beyond the end: so a byte above 0 is within the text.
+pub fn byte_at(text: &[u8], at: usize) -> u8
+    ensures { λ b. ⌜ (b ≡ getD (now (text .entry)) at 0) × (b ≤ 255 * (length (now (text .entry)) - at)) ⌝ }
+{
+    if at < text.len() { text[at] } else { 0 }
+}
+
+// ---- signs
+pub fn byte_end(text: &[u8], at: usize, b: u8) -> usize
+    requires { ⌜ (length (now text) ≤ mostText) × (at ≤ outside) ⌝ }
+    ensures { λ e. ⌜ Ends (now (text .entry)) (after (b ∷ [])) at e ⌝ }
+{
+    if text.len() <= at {
+        return OUTSIDE;
+    }
+    if text[at] == b { at + 1 } else { OUTSIDE }
+}
+
+fn sign_end(text: &[u8], at: usize, sign: &[u8]) -> usize
+    requires { ⌜ (length (now text) ≤ mostText) × (at ≤ outside) ⌝ }
+    ensures { λ e. ⌜ Ends (now (text .entry)) (after (now (sign .entry))) at e ⌝ }
+{
+    let mut e = at;
+    let mut i: usize = 0;
+    while i < sign.len() {
+        e = byte_end(text, e, sign[i]);
+        i += 1;
+    }
+    e
+}
+
+// The first of two ends, unless nothing ends there.
+fn either(text: &[u8], a: usize, b: usize) -> usize
+    ensures { λ e. ⌜ e ≡ cond (leb a (length (now (text .entry)))) a b ⌝ }
+{
+    if a <= text.len() { a } else { b }
+}
+
+// Of a constant without its first byte.
+pub fn constant_end(text: &[u8], at: usize) -> usize
+    requires { ⌜ (length (now text) ≤ mostText) × (at ≤ outside) ⌝ }
+    ensures { λ e. ⌜ Ends (now (text .entry)) afterHash at e ⌝ }
+{
+    either(
+        text,
+        sign_end(text, at, b"false"),
+        sign_end(text, at, b"true"),
+    )
+}
+
+pub fn mode_end(text: &[u8], at: usize) -> usize
+    requires { ⌜ (length (now text) ≤ mostText) × (at ≤ outside) ⌝ }
+    ensures { λ e. ⌜ Ends (now (text .entry)) (λ u. rest (readMode u)) at e ⌝ }
+{
+    either(text, sign_end(text, at, b".>?"), sign_end(text, at, b".>*"))
+}
+
+pub fn join_end(text: &[u8], at: usize) -> usize
+    requires { ⌜ (length (now text) ≤ mostText) × (at ≤ outside) ⌝ }
+    ensures { λ e. ⌜ Ends (now (text .entry)) (λ u. rest (readJoin u)) at e ⌝ }
+{
+    either(text, byte_end(text, at, b'+'), byte_end(text, at, b';'))
+}
+
+// ---- an atom's number
+fn is_digit(b: u8) -> bool
+    ensures { λ r. ⌜ r ≡ digit b ⌝ }
+{
+    if b < b'0' {
+        return false;
+    }
+    b <= b'9'
+}
+
+fn two_digits(b: u8, c: u8) -> bool
+    ensures { λ r. ⌜ r ≡ twoDigits b c ⌝ }
+{
+    if b < b'1' {
+        return false;
+    }
+    if is_digit(c) {
+        return number(b, c) < ATOMS;
+    }
+    false
+}
+
+fn value(b: u8) -> usize
+    requires { ⌜ nought ≤ b ⌝ }
+    ensures { λ n. ⌜ (n ≡ b - nought) × (n < 256) ⌝ }
+{
+    (b - b'0') as usize
+}
+
+// Of two digits.
+fn number(b: u8, c: u8) -> usize
+    requires { ⌜ (nought ≤ b) × (nought ≤ c) ⌝ }
+    ensures { λ n. ⌜ (n ≡ number b c) × (n < 65_536) ⌝ }
+{
+    10 * value(b) + value(c)
+}
+
+pub fn number_end(text: &[u8], at: usize) -> usize
+    requires { ⌜ (length (now text) ≤ mostText) × (at ≤ outside) ⌝ }
+    ensures { λ e. ⌜ Ends (now (text .entry)) (λ u. rest (readNumber u)) at e ⌝ }
+{
+    let b = byte_at(text, at);
+    if two_digits(b, byte_at(text, at + 1)) {
+        return at + 2;
+    }
+    if is_digit(b) { at + 1 } else { OUTSIDE }
+}
+
+pub fn number_at(text: &[u8], at: usize) -> usize
+    requires { ⌜ (at ≤ outside) × (nought ≤ getD (now text) at 0) ⌝ }
+    ensures { λ n. ⌜ (n ≡ numberAt (getD (now (text .entry)) at 0) (getD (now (text .entry)) (at + 1) 0)) × (n < 65_536) ⌝ }
+{
+    let b = byte_at(text, at);
+    let c = byte_at(text, at + 1);
+    if two_digits(b, c) {
+        number(b, c)
+    } else {
+        value(b)
+    }
+}
+
+// ---- formulas and paths
+pub fn form_end(text: &[u8], at: usize) -> usize
+    requires { ⌜ (length (now text) ≤ mostText) × (at ≤ outside) ⌝ }
+    ensures { λ e. ⌜ Deep readForm (now (text .entry)) at e ⌝ }
+{
+    match byte_at(text, at) {
+        b'#' => constant_end(text, at + 1),
+        b'p' => number_end(text, at + 1),
+        b'(' => byte_end(
+            text,
+            form_end(text, mode_end(text, path_end(text, at + 1))),
+            b')',
+        ),
+        _ => OUTSIDE,
+    }
+}
+
+fn path_end(text: &[u8], at: usize) -> usize
+    requires { ⌜ (length (now text) ≤ mostText) × (at ≤ outside) ⌝ }
+    ensures { λ e. ⌜ Deep readPath (now (text .entry)) at e ⌝ }
+{
+    match byte_at(text, at) {
+        b'&' => byte_end(text, at + 1, b't'),
+        b'?' => form_end(text, at + 1),
+        b'*' => path_end(text, at + 1),
+        b'(' => byte_end(
+            text,
+            path_end(text, join_end(text, path_end(text, at + 1))),
+            b')',
+        ),
+        _ => OUTSIDE,
+    }
+}
