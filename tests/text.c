@@ -5,6 +5,7 @@
 #define SERVICE service->call
 #define ELEMENT uint8_t
 #define EACH service->each
+#define ROOMS 0, PASTUREQUILL_MOST_RECORD_BYTES, 4 * PASTUREQUILL_MOST_RECORD_BYTES
 
 #include <pthread.h>
 
@@ -126,14 +127,6 @@ static void expect_other_order(const struct other_order *o)
 }
 
 /* ---- refused */
-/* Whatever the room. */
-static void expect_refusal(const char *reason, struct bytes in, uint64_t atoms, int refusal)
-{
-    static const size_t rooms[] = {0, MOST_BYTES, 4 * MOST_BYTES};
-    for (const size_t *room = rooms; room < END(rooms); room++)
-        expect(reason, in, atoms, *room, refusal, (struct output)NONE);
-}
-
 /* The atoms come before all that is wrong with a text. */
 static void expect_unread(const char *reason, struct bytes text, uint64_t atoms, int refusal)
 {
@@ -389,8 +382,9 @@ int main(void)
 {
     pthread_attr_t attributes;
     pthread_t thread;
-    guarded_must(pthread_attr_init(&attributes) == 0 && pthread_attr_setstacksize(&attributes, STACK) == 0 &&
-                 pthread_attr_setguardsize(&attributes, STACK) == 0);
-    guarded_must(pthread_create(&thread, &attributes, all, NULL) == 0 && pthread_join(thread, NULL) == 0);
+    must(pthread_attr_init(&attributes) == 0 && pthread_attr_setstacksize(&attributes, STACK) == 0 &&
+             pthread_attr_setguardsize(&attributes, STACK) == 0,
+         "there is no little stack");
+    must(pthread_create(&thread, &attributes, all, NULL) == 0 && pthread_join(thread, NULL) == 0, "there is no thread");
     return counts_told();
 }
