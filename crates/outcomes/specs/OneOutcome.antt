@@ -32,6 +32,7 @@ use Rattle.squares.proofs as squares
 use Rattle.joining.proofs as joining
 use Rattle.closing.proofs as closing
 use Rattle.tables.proofs as tables
+use Rattle.counting.proofs as counting
 use Rattle.parsing.proofs as parsing
 use Rattle.spelling.proofs as spelling
 use Rattle.text.proofs.writing as writes
@@ -115,9 +116,9 @@ pub record OneOutcome : Type 0 where
   pub put-constant : OneFits tables.put_constant.Kinds.ps tables.put_constant.Kinds.r tables.put_constant.Reads.Post
   pub put-atom : OneFits tables.put_atom.Kinds.ps tables.put_atom.Kinds.r tables.put_atom.Reads.Post
   pub put-modal : OneFits tables.put_modal.Kinds.ps tables.put_modal.Kinds.r tables.put_modal.Reads.Post
-  -- parsing, spelling
+  -- counting, parsing, spelling
   pub is-formula : OneFits parsing.is_formula.Kinds.ps parsing.is_formula.Kinds.r parsing.is_formula.Reads.Post
-  pub size-of : OneFits parsing.size_of.Kinds.ps parsing.size_of.Kinds.r parsing.size_of.Reads.Post
+  pub size-of : OneFits counting.size_of.Kinds.ps counting.size_of.Kinds.r counting.size_of.Reads.Post
   pub write-records : OneFits parsing.write_records.Kinds.ps parsing.write_records.Kinds.r parsing.write_records.Reads.Post
   pub spell-formula : OneFits spelling.spell_formula.Kinds.ps spelling.spell_formula.Kinds.r spelling.spell_formula.Reads.Post
   -- expand, value, judge, translate, text, listing

@@ -1,5 +1,6 @@
 -- Reading by the first byte. No two kinds of formula begin alike, nor two kinds of path: so behind that byte one reading is left, and it
 -- ends where the whole does.
+use Prim.Native.Char.{code}
 use Prim.Native.Nat.{ℕ, zero, suc, _+_, _-_, _≤_, _<_}
 use mathlib.Core.Path.{_≡_, refl, sym, _∙_}
 use mathlib.Core.Bool.{true, false}
@@ -57,17 +58,17 @@ module _ {T : Type 0} (read : ℕ → List ℕ → Option (T × List ℕ)) {t : 
       (λ n l. ends-then t (ends-at first n l) (ends-then t between (ends-then t (ends-at second n (omega (arith, first .onward, between .onward))) end)))
 
 -- Nothing begins with another byte.
-pub no-form : (n : ℕ) (s : List ℕ) → (getD s 0 0 ≡ 35 → ⊥) → (getD s 0 0 ≡ 112 → ⊥) → (getD s 0 0 ≡ 40 → ⊥) → readForm n s ≡ none
+pub no-form : (n : ℕ) (s : List ℕ) → (getD s 0 0 ≡ code "#" → ⊥) → (getD s 0 0 ≡ code "p" → ⊥) → (getD s 0 0 ≡ code "(" → ⊥) → readForm n s ≡ none
 unfolding readForm readAtom sign then else after
 no-form zero s x y z = refl
 no-form (suc n) [] x y z = refl
-no-form (suc n) (b ∷ s) x y z = rw (ne-eqb b 35 x, ne-eqb b 112 y, ne-eqb b 40 z)
+no-form (suc n) (b ∷ s) x y z = rw (ne-eqb b (code "#") x, ne-eqb b (code "p") y, ne-eqb b (code "(") z)
 
-pub no-path : (n : ℕ) (s : List ℕ) → (getD s 0 0 ≡ 38 → ⊥) → (getD s 0 0 ≡ 63 → ⊥) → (getD s 0 0 ≡ 42 → ⊥) → (getD s 0 0 ≡ 40 → ⊥) → readPath n s ≡ none
+pub no-path : (n : ℕ) (s : List ℕ) → (getD s 0 0 ≡ code "&" → ⊥) → (getD s 0 0 ≡ code "?" → ⊥) → (getD s 0 0 ≡ code "*" → ⊥) → (getD s 0 0 ≡ code "(" → ⊥) → readPath n s ≡ none
 unfolding readPath sign then else after
 no-path zero s w x y z = refl
 no-path (suc n) [] w x y z = refl
-no-path (suc n) (b ∷ s) w x y z = rw (ne-eqb b 38 w, ne-eqb b 63 x, ne-eqb b 42 y, ne-eqb b 40 z)
+no-path (suc n) (b ∷ s) w x y z = rw (ne-eqb b (code "&") w, ne-eqb b (code "?") x, ne-eqb b (code "*") y, ne-eqb b (code "(") z)
 
 deep-none : {T : Type 0} (read : ℕ → List ℕ → Option (T × List ℕ)) (t : List ℕ) (at : ℕ) → (length t ≤ mostText) × (at ≤ outside)
     → ((n : ℕ) → read n (drop at t) ≡ none) → Deep read t at outside
@@ -80,46 +81,46 @@ deep-none read t at asked h = record {
 
 -- ---- formulas and paths, by the byte b at the place
 module _ {t : List ℕ} {at e b : ℕ} (byte : b ≡ getD t at 0) where
-  pub form-constant : b ≡ 35 → Ends t afterHash (at + 1) e → Deep readForm t at e
+  pub form-constant : b ≡ code "#" → Ends t afterHash (at + 1) e → Deep readForm t at e
   unfolding readForm readAtom sign then else after
   form-constant key a =
-      deep readForm 35 (omega arith) (cc) (λ n. afterHash)
+      deep readForm (code "#") (omega arith) (cc) (λ n. afterHash)
       (λ n s. rw else-none (rest-signs (Form.constant false) (Form.constant true) (after (ascii "false") s) (after (ascii "true") s)))
       (λ n l. a)
 
-  pub form-atom : b ≡ 112 → Ends t (λ u. rest (readNumber u)) (at + 1) e → Deep readForm t at e
+  pub form-atom : b ≡ code "p" → Ends t (λ u. rest (readNumber u)) (at + 1) e → Deep readForm t at e
   unfolding readForm readAtom sign then else after
-  form-atom key a = deep-kept readForm 112 (omega arith) (cc) (λ n. readNumber) (λ i. Form.atom i) (λ n s. refl)
+  form-atom key a = deep-kept readForm (code "p") (omega arith) (cc) (λ n. readNumber) (λ i. Form.atom i) (λ n s. refl)
       (record { onward = a .onward; low = a .low; there = λ n l. a .there })
 
-  pub form-modal : {p m q : ℕ} → b ≡ 40 → Deep readPath t (at + 1) p → Ends t (λ u. rest (readMode u)) p m → Deep readForm t m q
+  pub form-modal : {p m q : ℕ} → b ≡ code "(" → Deep readPath t (at + 1) p → Ends t (λ u. rest (readMode u)) p m → Deep readForm t m q
       → Ends t (after closing) q e → Deep readForm t at e
   unfolding readForm readAtom sign then else after paired
-  form-modal key = deep-pair readForm 40 (omega arith) (cc) readPath readMode readForm (λ m p f. Form.modal m p f) (λ n u. refl)
+  form-modal key = deep-pair readForm (code "(") (omega arith) (cc) readPath readMode readForm (λ m p f. Form.modal m p f) (λ n u. refl)
 
-  pub path-step : b ≡ 38 → Ends t (after (ascii "t")) (at + 1) e → Deep readPath t at e
+  pub path-step : b ≡ code "&" → Ends t (after (ascii "t")) (at + 1) e → Deep readPath t at e
   unfolding readPath sign then else after
-  path-step key a = deep readPath 38 (omega arith) (cc) (λ n. after (ascii "t")) (λ n s. rw else-none (rest-sign (Path.move ahead) (after (ascii "t") s))) (λ n l. a)
+  path-step key a = deep readPath (code "&") (omega arith) (cc) (λ n. after (ascii "t")) (λ n s. rw else-none (rest-sign (Path.move ahead) (after (ascii "t") s))) (λ n l. a)
 
-  pub path-test : b ≡ 63 → Deep readForm t (at + 1) e → Deep readPath t at e
+  pub path-test : b ≡ code "?" → Deep readForm t (at + 1) e → Deep readPath t at e
   unfolding readPath sign then else after
-  path-test key = deep-kept readPath 63 (omega arith) (cc) readForm (λ f. Path.test f) (λ n s. refl)
+  path-test key = deep-kept readPath (code "?") (omega arith) (cc) readForm (λ f. Path.test f) (λ n s. refl)
 
-  pub path-star : b ≡ 42 → Deep readPath t (at + 1) e → Deep readPath t at e
+  pub path-star : b ≡ code "*" → Deep readPath t (at + 1) e → Deep readPath t at e
   unfolding readPath sign then else after
-  path-star key = deep-kept readPath 42 (omega arith) (cc) readPath (λ p. Path.star p) (λ n s. refl)
+  path-star key = deep-kept readPath (code "*") (omega arith) (cc) readPath (λ p. Path.star p) (λ n s. refl)
 
-  pub path-join : {p m q : ℕ} → b ≡ 40 → Deep readPath t (at + 1) p → Ends t (λ u. rest (readJoin u)) p m → Deep readPath t m q
+  pub path-join : {p m q : ℕ} → b ≡ code "(" → Deep readPath t (at + 1) p → Ends t (λ u. rest (readJoin u)) p m → Deep readPath t m q
       → Ends t (after closing) q e → Deep readPath t at e
   unfolding readPath sign then else after paired
-  path-join key = deep-pair readPath 40 (omega arith) (cc) readPath readJoin readPath (λ j p q. j p q) (λ n u. refl)
+  path-join key = deep-pair readPath (code "(") (omega arith) (cc) readPath readJoin readPath (λ j p q. j p q) (λ n u. refl)
 
 module _ (t : List ℕ) (at b : ℕ) (asked : (length t ≤ mostText) × (at ≤ outside)) (byte : b ≡ getD t at 0) where
   first : getD (drop at t) 0 0 ≡ b
   first = first-byte t at ∙ sym byte
 
-  pub form-none : (b ≡ 35 → ⊥) → (b ≡ 112 → ⊥) → (b ≡ 40 → ⊥) → Deep readForm t at outside
+  pub form-none : (b ≡ code "#" → ⊥) → (b ≡ code "p" → ⊥) → (b ≡ code "(" → ⊥) → Deep readForm t at outside
   form-none x y z = deep-none readForm t at asked (λ n. no-form n (drop at t) (rw first x) (rw first y) (rw first z))
 
-  pub path-none : (b ≡ 38 → ⊥) → (b ≡ 63 → ⊥) → (b ≡ 42 → ⊥) → (b ≡ 40 → ⊥) → Deep readPath t at outside
+  pub path-none : (b ≡ code "&" → ⊥) → (b ≡ code "?" → ⊥) → (b ≡ code "*" → ⊥) → (b ≡ code "(" → ⊥) → Deep readPath t at outside
   path-none w x y z = deep-none readPath t at asked (λ n. no-path n (drop at t) (rw first w) (rw first x) (rw first y) (rw first z))

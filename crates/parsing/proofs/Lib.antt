@@ -3,6 +3,5 @@ pub mod Places
 pub mod Numbers
 pub mod Heads
 pub mod Whole
-pub mod Marks
 pub mod Parts
 pub mod Writing

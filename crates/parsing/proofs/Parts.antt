@@ -1,4 +1,5 @@
 -- What a reading that succeeds has read, by the first byte b: its parts, and how its records are laid out behind theirs.
+use Prim.Native.Char.{code}
 use Prim.Native.Nat.{ℕ, zero, suc, pred, _+_, _<_}
 use mathlib.Core.Path.{_≡_, refl, sym, ap, _∙_}
 use mathlib.Core.Bool.{Bool, true, false, cond}
@@ -16,11 +17,10 @@ use Rattle.meaning.specs.Formula.{Form, Path}
 use Rattle.meaning.specs.Tree.{formSize, formFrom, pathSize, pathFrom}
 use Rattle.meaning.specs.Text.{then, else, after, sign, closing, ascii, readAtom, readNumber, readMode, readJoin, readForm, readPath}
 use Rattle.meaning.specs.Text.{diamondSign, boxSign, choiceSign, sequenceSign}
-use Rattle.parsing.specs.Places.{afterHash, textAt, rest}
-use Rattle.parsing.specs.Writing.{Sorted, forms, paths, numberAt}
+use Rattle.parsing.specs.Places.{afterHash, textAt, rest, valueIn}
+use Rattle.parsing.specs.Writing.{Sorted, forms, paths}
 use Rattle.meaning.proofs.Spelling.{then-some, else-some, after-some}
 use Rattle.parsing.proofs.Places.{no-read, both, here, place-of, else-none}
-use Rattle.parsing.proofs.Numbers.{read-digits}
 use Rattle.parsing.proofs.Heads.{paired, no-form, no-path}
 
 -- ---- bytes at a place
@@ -43,7 +43,7 @@ module _ {C : Type 0} (W : Sorted C) where
     pub opened : s ≡ byte ∷ from
     pub reads : g from ≡ some u
     pub sized : W .size x ≡ 1
-    pub laid : (n : ℕ) → W .bytes x n ≡ bytesOf (kind s) (a s) 0
+    pub laid : (n : ℕ) → W .bytes x n ≡ bytesOf (kind from) (a from) 0
 
   pub record OnePart {A : Type 0} (R : Sorted A) (kind : ℕ) (s : List ℕ) (x : C) (u : List ℕ) : Type 0 where
     pub byte : ℕ
@@ -58,7 +58,7 @@ module _ {C : Type 0} (W : Sorted C) where
   pub record TwoParts {A J B : Type 0} (R : Sorted A) (j : List ℕ → Option (J × List ℕ)) (S : Sorted B) (kind : List ℕ → ℕ) (s : List ℕ) (x : C) (u : List ℕ) : Type 0 where
     pub depth : ℕ
     pub from : List ℕ
-    pub opened : s ≡ 40 ∷ from
+    pub opened : s ≡ code "(" ∷ from
     pub first : A
     pub between : List ℕ
     pub reads-first : R .read depth from ≡ some (first, between)
@@ -68,7 +68,7 @@ module _ {C : Type 0} (W : Sorted C) where
     pub second : B
     pub last : List ℕ
     pub reads-second : S .read depth behind ≡ some (second, last)
-    pub closed : last ≡ 41 ∷ u
+    pub closed : last ≡ code ")" ∷ u
     pub sized : W .size x ≡ R .size first + S .size second + 1
     pub laid : (n : ℕ) → W .bytes x n ≡ R .bytes first n ++ S .bytes second (n + R .size first)
         ++ bytesOf (kind between) (pred (n + R .size first)) (pred (n + R .size first + S .size second))
@@ -95,7 +95,7 @@ either-signed c d a b s x u h =
 two-parts : {A J B C : Type 0} (W : Sorted C) (R : Sorted A) (j : List ℕ → Option (J × List ℕ)) (S : Sorted B) (k : J → A → B → C) (kind : List ℕ → ℕ)
     → ((v w : List ℕ) (o : J) → j v ≡ some (o, w) → (p : A) (q : B) → (W .size (k o p q) ≡ R .size p + S .size q + 1)
     × ((n : ℕ) → W .bytes (k o p q) n ≡ R .bytes p n ++ S .bytes q (n + R .size p) ++ bytesOf (kind v) (pred (n + R .size p)) (pred (n + R .size p + S .size q))))
-    → (m : ℕ) (s : List ℕ) (x : C) (u : List ℕ) → paired j (S .read m) k (R .read m s) ≡ some (x, u) → TwoParts W R j S kind (40 ∷ s) x u
+    → (m : ℕ) (s : List ℕ) (x : C) (u : List ℕ) → paired j (S .read m) k (R .read m s) ≡ some (x, u) → TwoParts W R j S kind ((code "(") ∷ s) x u
 unfolding paired sign
 two-parts {C = C} W R j S k kind node m s x u h =
     let ((p, v), e, f) = then-some (R .read m s) _ (x, u) h in
@@ -123,16 +123,16 @@ two-parts {C = C} W R j S k kind node m s x u h =
 
 -- ---- formulas
 abbrev pub constantKind : List ℕ → ℕ
-constantKind s = cond (eqb (getD s 1 0) 102) 0 1
+constantKind s = cond (eqb (getD s 0 0) (code "f")) 0 1
 
 abbrev pub modeKind : List ℕ → ℕ
-modeKind v = cond (eqb (getD v 2 0) 63) 3 4
+modeKind v = cond (eqb (getD v 2 0) (code "?")) 3 4
 
 abbrev pub joinKind : List ℕ → ℕ
-joinKind v = cond (eqb (getD v 0 0) 43) 8 9
+joinKind v = cond (eqb (getD v 0 0) (code "+")) 8 9
 
 module _ (b : ℕ) where
-  pub constant-leaf : b ≡ 35 → (m : ℕ) (s u : List ℕ) (x : Form) → getD s 0 0 ≡ b → readForm m s ≡ some (x, u) → Leaf forms afterHash constantKind (λ s. 0) s x u
+  pub constant-leaf : b ≡ code "#" → (m : ℕ) (s u : List ℕ) (x : Form) → getD s 0 0 ≡ b → readForm m s ≡ some (x, u) → Leaf forms afterHash constantKind (λ s. 0) s x u
   unfolding readForm readAtom sign then else after formSize formFrom numberOf
   constant-leaf key zero s u x e h = no-read h
   constant-leaf key (suc m) [] u x e h = no-read h
@@ -141,30 +141,30 @@ module _ (b : ℕ) where
       (λ (same, t). record { byte = c; from = s; opened = refl; reads = rw t; sized = rw same; laid = λ n. rw (same, t) })
       (either-signed (Form.constant false) (Form.constant true) (ascii "false") (ascii "true") s x u (rw (e, key, else-none) at h))
 
-  pub atom-leaf : b ≡ 112 → (m : ℕ) (s u : List ℕ) (x : Form) → getD s 0 0 ≡ b → readForm m s ≡ some (x, u)
-      → Leaf forms (λ u. rest (readNumber u)) (λ s. 2) (λ s. numberAt (getD s 1 0) (getD s 2 0)) s x u
-  unfolding readForm readAtom sign then else after formSize formFrom numberOf rest
+  pub atom-leaf : b ≡ code "p" → (m : ℕ) (s u : List ℕ) (x : Form) → getD s 0 0 ≡ b → readForm m s ≡ some (x, u)
+      → Leaf forms (λ u. rest (readNumber u)) (λ s. 2) (λ s. valueIn (readNumber s)) s x u
+  unfolding readForm readAtom sign then else after formSize formFrom numberOf rest valueIn
   atom-leaf key zero s u x e h = no-read h
   atom-leaf key (suc m) [] u x e h = no-read h
   atom-leaf key (suc m) (c ∷ s) u x e h =
       let (i, f, same) = kept (λ i. Form.atom i) (readNumber s) x u (rw (e, key) at h) in
-      record { byte = c; from = s; opened = refl; reads = rw f; sized = rw same; laid = λ n. rw (same, read-digits s i u f .0) }
+      record { byte = c; from = s; opened = refl; reads = ap rest f; sized = ap formSize same; laid = λ n. ap (λ (c : Form). formFrom c n) same ∙ ap (λ (r : Option (ℕ × List ℕ)). bytesOf 2 (valueIn r) 0) (sym f) }
 
-  pub modal-parts : (b ≡ 35 → ⊥) → (b ≡ 112 → ⊥) → (m : ℕ) (s u : List ℕ) (x : Form) → getD s 0 0 ≡ b → readForm m s ≡ some (x, u)
+  pub modal-parts : (b ≡ code "#" → ⊥) → (b ≡ code "p" → ⊥) → (m : ℕ) (s u : List ℕ) (x : Form) → getD s 0 0 ≡ b → readForm m s ≡ some (x, u)
       → TwoParts forms paths readMode forms modeKind s x u
   unfolding readForm readAtom sign then else after paired readMode formSize formFrom numberOf
   modal-parts y z zero s u x e h = no-read h
   modal-parts y z (suc m) [] u x e h = no-read h
-  modal-parts y z (suc m) (c ∷ s) u x e h = go (eqb c 40) refl
+  modal-parts y z (suc m) (c ∷ s) u x e h = go (eqb c (code "(")) refl
     where
-      go : (d : Bool) → eqb c 40 ≡ d → TwoParts forms paths readMode forms modeKind (c ∷ s) x u
-      go true f = rw (eqb-true c 40 f) (two-parts forms paths readMode forms (λ m p f. Form.modal m p f) modeKind
+      go : (d : Bool) → eqb c (code "(") ≡ d → TwoParts forms paths readMode forms modeKind (c ∷ s) x u
+      go true f = rw (eqb-true c (code "(") f) (two-parts forms paths readMode forms (λ m p f. Form.modal m p f) modeKind
           (λ v w o l p q. ⊎-elim (λ (same, t). (refl, λ n. rw (same, t))) (λ (same, t). (refl, λ n. rw (same, t))) (either-signed diamond box diamondSign boxSign v o w l))
-          m s x u (rw (eqb-true c 40 f) at h))
-      go false f = no-read (sym (no-form (suc m) (c ∷ s) (rw e y) (rw e z) (eqb-false c 40 f)) ∙ h)
+          m s x u (rw (eqb-true c (code "(") f) at h))
+      go false f = no-read (sym (no-form (suc m) (c ∷ s) (rw e y) (rw e z) (eqb-false c (code "(") f)) ∙ h)
 
   -- ---- paths
-  pub step-leaf : b ≡ 38 → (m : ℕ) (s u : List ℕ) (x : Path) → getD s 0 0 ≡ b → readPath m s ≡ some (x, u) → Leaf paths (after (ascii "t")) (λ s. 5) (λ s. 0) s x u
+  pub step-leaf : b ≡ code "&" → (m : ℕ) (s u : List ℕ) (x : Path) → getD s 0 0 ≡ b → readPath m s ≡ some (x, u) → Leaf paths (after (ascii "t")) (λ s. 5) (λ s. 0) s x u
   unfolding readPath sign then else after pathSize pathFrom numberOf
   step-leaf key zero s u x e h = no-read h
   step-leaf key (suc m) [] u x e h = no-read h
@@ -172,7 +172,7 @@ module _ (b : ℕ) where
       let (same, t) = signed (Path.move ahead) (ascii "t") s x u (rw (e, key, else-none) at h) in
       record { byte = c; from = s; opened = refl; reads = rw t; sized = rw same; laid = λ n. rw same }
 
-  pub test-part : b ≡ 63 → (m : ℕ) (s u : List ℕ) (x : Path) → getD s 0 0 ≡ b → readPath m s ≡ some (x, u) → OnePart paths forms 7 s x u
+  pub test-part : b ≡ code "?" → (m : ℕ) (s u : List ℕ) (x : Path) → getD s 0 0 ≡ b → readPath m s ≡ some (x, u) → OnePart paths forms 7 s x u
   unfolding readPath sign then else after pathSize pathFrom numberOf
   test-part key zero s u x e h = no-read h
   test-part key (suc m) [] u x e h = no-read h
@@ -180,7 +180,7 @@ module _ (b : ℕ) where
       let (f, l, same) = kept (λ f. Path.test f) (readForm m s) x u (rw (e, key) at h) in
       record { byte = c; depth = m; from = s; opened = refl; part = f; reads = l; sized = ap pathSize same; laid = λ n. ap (λ (c : Path). pathFrom c n) same }
 
-  pub star-part : b ≡ 42 → (m : ℕ) (s u : List ℕ) (x : Path) → getD s 0 0 ≡ b → readPath m s ≡ some (x, u) → OnePart paths paths 10 s x u
+  pub star-part : b ≡ code "*" → (m : ℕ) (s u : List ℕ) (x : Path) → getD s 0 0 ≡ b → readPath m s ≡ some (x, u) → OnePart paths paths 10 s x u
   unfolding readPath sign then else after pathSize pathFrom numberOf
   star-part key zero s u x e h = no-read h
   star-part key (suc m) [] u x e h = no-read h
@@ -188,16 +188,16 @@ module _ (b : ℕ) where
       let (p, l, same) = kept (λ p. Path.star p) (readPath m s) x u (rw (e, key) at h) in
       record { byte = c; depth = m; from = s; opened = refl; part = p; reads = l; sized = ap pathSize same; laid = λ n. ap (λ (c : Path). pathFrom c n) same }
 
-  pub join-parts : (b ≡ 38 → ⊥) → (b ≡ 63 → ⊥) → (b ≡ 42 → ⊥) → (m : ℕ) (s u : List ℕ) (x : Path) → getD s 0 0 ≡ b → readPath m s ≡ some (x, u)
+  pub join-parts : (b ≡ code "&" → ⊥) → (b ≡ code "?" → ⊥) → (b ≡ code "*" → ⊥) → (m : ℕ) (s u : List ℕ) (x : Path) → getD s 0 0 ≡ b → readPath m s ≡ some (x, u)
       → TwoParts paths paths readJoin paths joinKind s x u
   unfolding readPath sign then else after paired readJoin pathSize pathFrom numberOf
   join-parts w y z zero s u x e h = no-read h
   join-parts w y z (suc m) [] u x e h = no-read h
-  join-parts w y z (suc m) (c ∷ s) u x e h = go (eqb c 40) refl
+  join-parts w y z (suc m) (c ∷ s) u x e h = go (eqb c (code "(")) refl
     where
-      go : (d : Bool) → eqb c 40 ≡ d → TwoParts paths paths readJoin paths joinKind (c ∷ s) x u
-      go true f = rw (eqb-true c 40 f) (two-parts paths paths readJoin paths (λ j p q. j p q) joinKind
+      go : (d : Bool) → eqb c (code "(") ≡ d → TwoParts paths paths readJoin paths joinKind (c ∷ s) x u
+      go true f = rw (eqb-true c (code "(") f) (two-parts paths paths readJoin paths (λ j p q. j p q) joinKind
           (λ v w o l p q. ⊎-elim (λ (same, t). (rw same, λ n. rw (same, t))) (λ (same, t). (rw same, λ n. rw (same, t)))
           (either-signed (λ p q. Path.choice p q) (λ p q. Path.sequence p q) choiceSign sequenceSign v o w l))
-          m s x u (rw (eqb-true c 40 f) at h))
-      go false f = no-read (sym (no-path (suc m) (c ∷ s) (rw e w) (rw e y) (rw e z) (eqb-false c 40 f)) ∙ h)
+          m s x u (rw (eqb-true c (code "(") f) at h))
+      go false f = no-read (sym (no-path (suc m) (c ∷ s) (rw e w) (rw e y) (rw e z) (eqb-false c (code "(") f)) ∙ h)

@@ -113,7 +113,7 @@ module _ (t : List ℕ) (at : ℕ) where
   first-byte = getD-drop at t 0 0 ∙ rw add-zero
 
   -- A reading that fails at what is left fails at the place.
-  pub none-at : (f : List ℕ → Option (List ℕ)) → f (drop at t) ≡ none → then (textAt t at) f ≡ none
+  pub none-at : {A : Type 0} (f : List ℕ → Option A) → f (drop at t) ≡ none → then (textAt t at) f ≡ none
   unfolding then
   none-at f h = go (leb at (length t)) refl
     where
@@ -144,21 +144,15 @@ module _ (t : List ℕ) where
       there = sym (then-then (textAt t at) f g) ∙ rw (a .there) (b .there);
     }
 
-    pub ends-else : {m : ℕ} → Ends t f at m → Ends t g at e → Ends t (λ u. else (f u) (g u)) at (cond (leb m (length t)) m e)
+  -- The first of two, where it ends in the text; and else the second.
+  module _ (f g : List ℕ → Option (List ℕ)) {at e : ℕ} where
+    pub ends-first : Ends t f at e → e ≤ length t → Ends t (λ u. else (f u) (g u)) at e
     unfolding else
-    ends-else {m} a b = go (leb m (length t)) refl
-      where
-        go : (c : Bool) → leb m (length t) ≡ c → Ends t (λ u. else (f u) (g u)) at (cond c m e)
-        go true l = record {
-          onward = a .onward;
-          low = a .low;
-          there = then-else (textAt t at) f g ∙ rw (a .there, here t m (leb-true m (length t) l));
-        }
-        go false l = record {
-          onward = b .onward;
-          low = b .low;
-          there = then-else (textAt t at) f g ∙ rw (a .there, beyond t m (leb-false m (length t) l), b .there);
-        }
+    ends-first a l = record { onward = a .onward; low = a .low; there = then-else (textAt t at) f g ∙ rw (a .there, here t e l) }
+
+    pub ends-second : {m : ℕ} → Ends t f at m → length t < m → Ends t g at e → Ends t (λ u. else (f u) (g u)) at e
+    unfolding else
+    ends-second {m} a l b = record { onward = b .onward; low = b .low; there = then-else (textAt t at) f g ∙ rw (a .there, beyond t m l, b .there) }
 
   -- One byte more of a sign, and all of it.
   module _ (x : List ℕ) {at e : ℕ} (i : ℕ) where

@@ -1,4 +1,5 @@
 -- What was written of a tree's parts, and its own record behind them, are the tree's records.
+use Prim.Native.Char.{code}
 use Prim.Native.Nat.{ℕ, pred, _+_, _*_, _-_, _≤_, _<_}
 use mathlib.Core.Path.{_≡_, sym, ap, _∙_}
 use mathlib.Core.List.{List, [], _∷_, _++_}
@@ -13,11 +14,10 @@ use Rattle.meaning.specs.Tree.{formSize, pathSize, formFrom, pathFrom}
 use Rattle.meaning.specs.Text.{mostText, then}
 use Rattle.meaning.proofs.Postorder.{form-part, path-part}
 use Rattle.meaning.proofs.Stores.{sets-append}
-use Rattle.parsing.specs.Places.{outside, nought, textAt, rest, Ends}
-use Rattle.parsing.specs.Writing.{Sorted, forms, Readable, Wrote, numberAt}
+use Rattle.parsing.specs.Places.{outside, textAt, rest, Ends}
+use Rattle.parsing.specs.Writing.{Sorted, Readable, Wrote}
 use Rattle.parsing.proofs.Places.{place-of}
-use Rattle.parsing.proofs.Numbers.{first-digit}
-use Rattle.parsing.proofs.Parts.{byte-of, next, Leaf, OnePart, TwoParts, atom-leaf}
+use Rattle.parsing.proofs.Parts.{byte-of, next, Leaf, OnePart, TwoParts}
 
 pub form-long : (f : Form) (n : ℕ) → length (formFrom f n) ≡ recordSize * formSize f
 form-long f n = form-part core [] (formAtoms f) f n (le-refl (formAtoms f)) .whole
@@ -62,7 +62,7 @@ module _ {C : Type 0} (W : Sorted C) (t : List ℕ) (at b : ℕ) (byte : b ≡ g
     pub leaf-room : {n : ℕ} → Readable W t at n → n < mostRecords
     leaf-room r = omega (arith, r .few, split (r .depth) (r .from) (r .left) (r .tree) (first-byte (r .here)) (r .reads) .sized)
 
-    pub leaf-wrote : {n e e′ n′ κ α : ℕ} {old new : List ℕ} → Ends t g (at + 1) e → ((s : List ℕ) → textAt t at ≡ some s → (κ ≡ kind s) × (α ≡ a s))
+    pub leaf-wrote : {n e e′ n′ κ α : ℕ} {old new : List ℕ} → Ends t g (at + 1) e → ((s : List ℕ) → textAt t (at + 1) ≡ some s → (κ ≡ kind s) × (α ≡ a s))
         → (e′ ≡ e) × (n′ ≡ n + 1) × (new ≡ sets old (recordSize * n) (bytesOf κ α 0)) → Wrote W t at n old e′ n′ new
     unfolding then
     leaf-wrote {n} ends chosen (to, next-number, stores) = rw (to, next-number) record {
@@ -71,8 +71,9 @@ module _ {C : Type 0} (W : Sorted C) (t : List ℕ) (at b : ℕ) (byte : b ≡ g
       more = omega arith;
       whole = λ depth from left x h reads.
           let l = split depth from left x (first-byte h) reads in
-          let (κ, α) = chosen from h in
-          (sym (ends .there) ∙ rw (behind-byte (l .byte) (l .from) h (l .opened)) (l .reads), omega (arith, l .sized), stores ∙ rw (l .laid n, κ, α));
+          let after = behind-byte (l .byte) (l .from) h (l .opened) in
+          let (κ, α) = chosen (l .from) after in
+          (sym (ends .there) ∙ rw after (l .reads), omega (arith, l .sized), stores ∙ rw (l .laid n, κ, α));
     }
 
   -- ---- one part
@@ -117,7 +118,7 @@ module _ {C : Type 0} (W : Sorted C) (t : List ℕ) (at b : ℕ) (byte : b ≡ g
       two = split (r .depth) (r .from) (r .left) (r .tree) (first-byte (r .here)) (r .reads)
 
       two-here : textAt t (at + 1) ≡ some (two .from)
-      two-here = behind-byte 40 (two .from) (r .here) (two .opened)
+      two-here = behind-byte (code "(") (two .from) (r .here) (two .opened)
 
       pub two-asks-first : Readable R t (at + 1) n
       two-asks-first =
@@ -137,7 +138,7 @@ module _ {C : Type 0} (W : Sorted C) (t : List ℕ) (at b : ℕ) (byte : b ≡ g
           pub two-room : (m′ < mostRecords) × (e′ + 1 ≤ outside)
           two-room =
               let (there, count, _) = v .whole _ _ _ _ (two-behind .0) (two .reads-second) in
-              let (within, _) = place-of t (e′ + 1) (r .left) (next t e′ 41 (r .left) (there ∙ ap (λ (s : List ℕ). some s) (two .closed))) in
+              let (within, _) = place-of t (e′ + 1) (r .left) (next t e′ (code ")") (r .left) (there ∙ ap (λ (s : List ℕ). some s) (two .closed))) in
               (omega (arith, two-behind .1), omega (arith, r .short))
 
           pub two-wrote : {κ e″ m″ : ℕ} {new : List ℕ} → ((v : List ℕ) → textAt t e ≡ some v → κ ≡ kind v)
@@ -148,26 +149,16 @@ module _ {C : Type 0} (W : Sorted C) (t : List ℕ) (at b : ℕ) (byte : b ≡ g
             more = omega (arith, w .more, v .more);
             whole = λ depth from left x h reads.
                 let p = split depth from left x (first-byte h) reads in
-                let (there, count, put) = w .whole _ _ _ _ (behind-byte 40 (p .from) h (p .opened)) (p .reads-first) in
+                let (there, count, put) = w .whole _ _ _ _ (behind-byte (code "(") (p .from) h (p .opened)) (p .reads-first) in
                 let (there′, count′, put′) = v .whole _ _ _ _ (second-here there (p .reads-join) ends) (p .reads-second) in
                 let both = run-more old n (R .bytes (p .first) n) (R .size (p .first)) m (S .bytes (p .second) m) (long (p .first) n) count put put′ in
                 let size : length (R .bytes (p .first) n ++ S .bytes (p .second) m) ≡ recordSize * (R .size (p .first) + S .size (p .second)) =
                 simp length-append (omega (arith, long (p .first) n, long′ (p .second) m)) in
                 let last : m - 1 ≡ pred (n + R .size (p .first)) = omega arith in
                 let last′ : m′ - 1 ≡ pred (n + R .size (p .first) + S .size (p .second)) = omega arith in (
-                  next t e′ 41 left (there′ ∙ ap (λ (s : List ℕ). some s) (p .closed)),
+                  next t e′ (code ")") left (there′ ∙ ap (λ (s : List ℕ). some s) (p .closed)),
                   omega (arith, p .sized),
                   run-more old n (R .bytes (p .first) n ++ S .bytes (p .second) m) (R .size (p .first) + S .size (p .second)) m′ (bytesOf κ (m - 1) (m′ - 1)) size (omega arith) both stores
                       ∙ rw (p .laid n, chosen (p .between) there, last, last′, count),
                 );
           }
-
--- ---- an atom's digits
-pub atom-bytes : (t : List ℕ) (at : ℕ) (s : List ℕ) → textAt t at ≡ some s → numberAt (getD t (at + 1) 0) (getD t (at + 1 + 1) 0) ≡ numberAt (getD s 1 0) (getD s 2 0)
-atom-bytes t at s h = let two : at + 1 + 1 ≡ at + 2 = omega arith in rw (two, byte-of t at s h 1, byte-of t at s h 2)
-
-pub atom-digit : (t : List ℕ) (at b : ℕ) {n : ℕ} → b ≡ getD t at 0 → b ≡ 112 → Readable forms t at n → nought ≤ getD t (at + 1) 0
-atom-digit t at b byte key r =
-    let l = atom-leaf b key (r .depth) (r .from) (r .left) (r .tree) (first-byte forms t at b byte (r .here)) (r .reads) in
-    let h = behind-byte forms t at b byte (l .byte) (l .from) (r .here) (l .opened) in
-    rw (← byte-of t (at + 1) (l .from) h 0, add-zero) at (first-digit (l .from) (r .left) (l .reads))

@@ -3,16 +3,17 @@
 --   textAt t at     what is left of t from a place on, or none
 --   rest r          what a reading left
 --   Ends t f at e   the reading f, begun at the place `at`, ends at the place e
+--   Numbered t at e n   the same of an atom's number, which is n
 --   Deep read t at e   the same at every depth that is enough
 use Prim.Native.Char.{code}
-use Prim.Native.Nat.{ℕ, _+_, _≤_}
+use Prim.Native.Nat.{ℕ, _+_, _≤_, _<_}
 use mathlib.Core.Path.{_≡_}
 use mathlib.Core.Bool.{cond}
 use mathlib.Core.List.{List}
 use mathlib.Core.Option.{Option, none, some}
 use lib.Dec.{leb}
 use lib.ListN.{length, drop}
-use Rattle.meaning.specs.Text.{then, else, after, ascii}
+use Rattle.meaning.specs.Text.{then, else, after, ascii, readNumber}
 
 abbrev pub outside : ℕ
 outside = 1_531
@@ -41,3 +42,13 @@ pub record Deep {T : Type 0} (read : ℕ → List ℕ → Option (T × List ℕ)
   pub onward : at ≤ e
   pub low : e ≤ outside
   pub there : (n : ℕ) → length t ≤ n + at → then (textAt t at) (λ u. rest (read n u)) ≡ textAt t e
+
+-- The number that was read, and 0 for none.
+unfoldable pub valueIn : Option (ℕ × List ℕ) → ℕ
+valueIn none = 0
+valueIn (some (i, u)) = i
+
+pub record Numbered (t : List ℕ) (at e n : ℕ) : Type 0 where
+  pub ends : Ends t (λ u. rest (readNumber u)) at e
+  pub value : n ≡ valueIn (then (textAt t at) readNumber)
+  pub small : n < 65_536

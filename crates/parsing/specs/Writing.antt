@@ -2,9 +2,8 @@
 --   Sorted T                       how a tree of type T is read, its size, and its records from number n on
 --   Readable S t at n              a tree can be read at the place, and its records fit from number n on
 --   Wrote S t at n old e m new     it ends at the place e, its records were written, and m is the number after them
-use Prim.Native.Nat.{ℕ, _+_, _*_, _-_, _≤_, _<_}
+use Prim.Native.Nat.{ℕ, _+_, _*_, _≤_, _<_}
 use mathlib.Core.Path.{_≡_}
-use mathlib.Core.Bool.{cond}
 use mathlib.Core.List.{List}
 use mathlib.Core.Option.{Option, some}
 use lib.ListN.{length}
@@ -12,8 +11,8 @@ use lib.Seq.{sets}
 use Rattle.meaning.specs.Record.{recordSize, mostRecords}
 use Rattle.meaning.specs.Formula.{Form, Path}
 use Rattle.meaning.specs.Tree.{formSize, pathSize, formFrom, pathFrom}
-use Rattle.meaning.specs.Text.{mostText, twoDigits, number, readForm, readPath}
-use Rattle.parsing.specs.Places.{outside, nought, textAt}
+use Rattle.meaning.specs.Text.{mostText, readForm, readPath}
+use Rattle.parsing.specs.Places.{outside, textAt}
 
 pub record Sorted (T : Type 0) : Type 0 where
   pub read : ℕ → List ℕ → Option (T × List ℕ)
@@ -43,7 +42,3 @@ pub record Wrote {T : Type 0} (S : Sorted T) (t : List ℕ) (at n : ℕ) (old : 
   pub more : n < m
   pub whole : (depth : ℕ) (from left : List ℕ) (x : T) → textAt t at ≡ some from → S .read depth from ≡ some (x, left)
       → (textAt t e ≡ some left) × (m ≡ n + S .size x) × (new ≡ sets old (recordSize * n) (S .bytes x n))
-
--- The number whose digits begin at the place.
-unfoldable pub numberAt : ℕ → ℕ → ℕ
-numberAt b c = cond (twoDigits b c) (number b c) (b - nought)

@@ -1,14 +1,11 @@
 // Where the parts of a text end. A place beyond every text stands for none, and nothing can be read there: so no step asks whether the
 // one before it failed.
 ghost use mathlib.Core.Path.{_≡_};
-ghost use mathlib.Core.Bool.{Bool, cond, false, true};
 ghost use mathlib.Core.List.{_∷_, []};
-ghost use Prim.Native.Nat.{_+_, _*_, _-_, _<_, _≤_};
-ghost use lib.Dec.{leb};
+ghost use Prim.Native.Nat.{_*_, _-_, _<_, _≤_};
 ghost use lib.ListN.{length, getD};
-ghost use Rattle.meaning.specs.Text.{mostText, after, digit, twoDigits, number, readNumber, readMode, readJoin, readForm, readPath};
-ghost use Rattle.parsing.specs.Writing.{numberAt};
-ghost use Rattle.parsing.specs.Places.{outside, nought, afterHash, rest, Ends, Deep};
+ghost use Rattle.meaning.specs.Text.{mostText, after, digit, twoDigits, number, readMode, readJoin, readForm, readPath};
+ghost use Rattle.parsing.specs.Places.{outside, nought, afterHash, rest, Ends, Numbered, Deep};
 
 const OUTSIDE: usize = 1531;
 
@@ -46,37 +43,38 @@ fn sign_end(text: &[u8], at: usize, sign: &[u8]) -> usize
     e
 }
 
-// The first of two ends, unless nothing ends there.
-fn either(text: &[u8], a: usize, b: usize) -> usize
-    ensures { λ e. ⌜ e ≡ cond (leb a (length (now (text .entry)))) a b ⌝ }
-{
-    if a <= text.len() { a } else { b }
-}
-
 // Of a constant without its first byte.
 pub fn constant_end(text: &[u8], at: usize) -> usize
     requires { ⌜ (length (now text) ≤ mostText) × (at ≤ outside) ⌝ }
     ensures { λ e. ⌜ Ends (now (text .entry)) afterHash at e ⌝ }
 {
-    either(
-        text,
-        sign_end(text, at, b"false"),
-        sign_end(text, at, b"true"),
-    )
+    let e = sign_end(text, at, b"false");
+    if e <= text.len() {
+        return e;
+    }
+    sign_end(text, at, b"true")
 }
 
 pub fn mode_end(text: &[u8], at: usize) -> usize
     requires { ⌜ (length (now text) ≤ mostText) × (at ≤ outside) ⌝ }
     ensures { λ e. ⌜ Ends (now (text .entry)) (λ u. rest (readMode u)) at e ⌝ }
 {
-    either(text, sign_end(text, at, b".>?"), sign_end(text, at, b".>*"))
+    let e = sign_end(text, at, b".>?");
+    if e <= text.len() {
+        return e;
+    }
+    sign_end(text, at, b".>*")
 }
 
 pub fn join_end(text: &[u8], at: usize) -> usize
     requires { ⌜ (length (now text) ≤ mostText) × (at ≤ outside) ⌝ }
     ensures { λ e. ⌜ Ends (now (text .entry)) (λ u. rest (readJoin u)) at e ⌝ }
 {
-    either(text, byte_end(text, at, b'+'), byte_end(text, at, b';'))
+    let e = byte_end(text, at, b'+');
+    if e <= text.len() {
+        return e;
+    }
+    byte_end(text, at, b';')
 }
 
 // ---- an atom's number
@@ -116,27 +114,33 @@ fn number(b: u8, c: u8) -> usize
     10 * value(b) + value(c)
 }
 
-pub fn number_end(text: &[u8], at: usize) -> usize
-    requires { ⌜ (length (now text) ≤ mostText) × (at ≤ outside) ⌝ }
-    ensures { λ e. ⌜ Ends (now (text .entry)) (λ u. rest (readNumber u)) at e ⌝ }
-{
-    let b = byte_at(text, at);
-    if two_digits(b, byte_at(text, at + 1)) {
-        return at + 2;
-    }
-    if is_digit(b) { at + 1 } else { OUTSIDE }
+// Where it ends, and what it is.
+pub struct Atom {
+    pub end: usize,
+    pub value: usize,
 }
 
-pub fn number_at(text: &[u8], at: usize) -> usize
-    requires { ⌜ (at ≤ outside) × (nought ≤ getD (now text) at 0) ⌝ }
-    ensures { λ n. ⌜ (n ≡ numberAt (getD (now (text .entry)) at 0) (getD (now (text .entry)) (at + 1) 0)) × (n < 65_536) ⌝ }
+pub fn number_at(text: &[u8], at: usize) -> Atom
+    requires { ⌜ (length (now text) ≤ mostText) × (at ≤ outside) ⌝ }
+    ensures { λ v. ⌜ Numbered (now (text .entry)) at (v .end) (v .value) ⌝ }
 {
     let b = byte_at(text, at);
     let c = byte_at(text, at + 1);
     if two_digits(b, c) {
-        number(b, c)
-    } else {
-        value(b)
+        return Atom {
+            end: at + 2,
+            value: number(b, c),
+        };
+    }
+    if is_digit(b) {
+        return Atom {
+            end: at + 1,
+            value: value(b),
+        };
+    }
+    Atom {
+        end: OUTSIDE,
+        value: 0,
     }
 }
 
@@ -147,7 +151,10 @@ pub fn form_end(text: &[u8], at: usize) -> usize
 {
     match byte_at(text, at) {
         b'#' => constant_end(text, at + 1),
-        b'p' => number_end(text, at + 1),
+        b'p' => {
+            let atom = number_at(text, at + 1);
+            atom.end
+        }
         b'(' => byte_end(
             text,
             form_end(text, mode_end(text, path_end(text, at + 1))),

@@ -1,6 +1,5 @@
-// Text of formulas: whether it is one, how many records it takes, and these records in postorder.
+// Text of formulas: whether it is one, and its records in postorder.
 mod ends;
-mod size;
 mod write;
 
 ghost use mathlib.Core.Path.{_≡_};
@@ -20,15 +19,7 @@ pub fn is_formula(text: &[u8]) -> bool
     ends::form_end(text, 0) == text.len()
 }
 
-// How many records the formula takes.
-pub fn size_of(text: &[u8]) -> usize
-    requires { ⌜ (length (now text) ≤ mostText) × (isRead (read (now text)) ≡ true) ⌝ }
-    ensures { λ n. ⌜ n ≡ formSize (formIn (now (text .entry))) ⌝ }
-{
-    size::marks(text)
-}
-
-// Writes them in postorder from the buffer's start on.
+// Writes the formula's records in postorder from the buffer's start on.
 pub fn write_records(text: &[u8], buffer: &mut [u8; layout::MOST_BYTES])
     requires { ⌜ (length (now text) ≤ mostText) × (isRead (read (now text)) ≡ true) × (formSize (formIn (now text)) ≤ mostRecords) ⌝ }
     ensures { λ _. ⌜ now (buffer .exit) ≡ sets (now (buffer .entry)) 0 (postorder (formIn (now (text .entry)))) ⌝ }

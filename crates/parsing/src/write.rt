@@ -1,7 +1,7 @@
 // Writing the records of a text that is a formula: those of its parts, then its own.
 ghost use mathlib.Core.Path.{_≡_};
 ghost use mathlib.Core.Bool.{cond};
-ghost use Prim.Native.Nat.{_+_, _*_, _<_, _≤_};
+ghost use Prim.Native.Nat.{_+_, _*_, _<_};
 ghost use lib.Dec.{eqb};
 ghost use lib.ListN.{getD};
 ghost use lib.Seq.{sets};
@@ -29,14 +29,7 @@ pub fn write_form(text: &[u8], at: usize, buffer: &mut [u8; layout::MOST_BYTES],
         }
         b'p' => {
             let atom = ends::number_at(text, at + 1);
-            put(
-                buffer,
-                n,
-                kind::ATOM,
-                atom,
-                0,
-                ends::number_end(text, at + 1),
-            )
+            put(buffer, n, kind::ATOM, atom.value, 0, atom.end)
         }
         _ => {
             let path = write_path(text, at + 1, buffer, n);

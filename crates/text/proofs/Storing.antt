@@ -2,23 +2,24 @@
 -- in a buffer, from which it is copied where there is room.
 use Prim.Native.Nat.{ℕ, zero, suc, pred, _+_, _*_, _<_, _≤_}
 use mathlib.Core.Path.{_≡_, refl, sym, _∙_}
+use mathlib.Core.Bool.{true}
 use mathlib.Core.List.{List, [], _∷_, _++_, append-assoc}
 use native.Mathlib.Nat.{le-refl}
 use native.Mathlib.Omega.{arith}
 use lib.ListN.{length, getD, take, drop, List·getD-append}
 use lib.Seq.{sets}
-use borrow.Author.Tests.{lt-ltb, le-ltb, ltb-false, eq-eqb, ne-eqb}
+use borrow.Author.Tests.{lt-ltb, le-ltb, ltb-false, eq-eqb, ne-eqb, not-false}
 use Rattle.meaning.specs.Run.{each, written}
 use Rattle.meaning.specs.Record.{core, recordSize, mostRecords, count}
 use Rattle.meaning.specs.Formula.{Form, formAtoms}
 use Rattle.meaning.specs.Tree.{formAt, formSize, postorder}
-use Rattle.meaning.specs.Text.{spell, formIn}
-use Rattle.meaning.specs.Refusal.{Ground, ofFirst, firstOf, ground5, ground10, checkGrounds, formGrounds, writeGrounds, readGrounds}
+use Rattle.meaning.specs.Text.{spell, mostText, read, isRead, formIn}
+use Rattle.meaning.specs.Refusal.{Ground, ofFirst, firstOf, ground5, ground8, ground10, ground14, ground14-text, ground19, checkGrounds, formGrounds, writeGrounds, readGrounds}
 use Rattle.meaning.specs.Service.{accepted, writeAnswer, writeAfter, readAnswer, readAfter}
 use Rattle.meaning.proofs.First.{Clear, Numbered, none-clear, clear-skip, found-stop, clear-append, numbered-append, numbered-each}
 use Rattle.meaning.proofs.Stores.{sets-written, front-copied}
 use Rattle.meaning.proofs.Postorder.{form-part}
-use Rattle.text.specs.Texting.{backGrounds, atomGrounds, recordsGrounds, Sized, Came}
+use Rattle.text.specs.Texting.{textGrounds, backGrounds, atomGrounds, recordsGrounds, Sized, Came}
 
 -- ---- grounds of what is given, and of what comes out
 module _ (gs ks : List Ground) {x : ℕ} where
@@ -146,11 +147,31 @@ module _ (t : List ℕ) (A : ℕ) (out : List ℕ) (x : ℕ) where
   abbrev rest : List Ground
   rest = recordsGrounds (postorder (formIn t)) (formSize (formIn t)) A (length out)
 
-  pub read-refused : x ≡ firstOf (formGrounds t A) → (x ≡ 0 → ⊥) → Read 0 out
+  pub read-refused : x ≡ firstOf (textGrounds t A) → (x ≡ 0 → ⊥) → Read 0 out
   unfolding readAnswer readAfter readGrounds
-  read-refused e d = answers-refused (formGrounds t A) rest (formSize (formIn t)) (postorder (formIn t)) out x e d
+  read-refused e d =
+      answers-refused (formGrounds t A) rest (formSize (formIn t)) (postorder (formIn t)) out x
+      (refused-first (textGrounds t A) (ground14 (formSize (formIn t)) ∷ []) e d) d
 
-  pub read-passed : (n : ℕ) (after : List ℕ) → Clear (formGrounds t A) → Came (formIn t) A out x n after → Read n after
-  unfolding readAnswer readAfter readGrounds
-  read-passed n after c a =
-      answers-passed (formGrounds t A) rest (formSize (formIn t)) (postorder (formIn t)) out x n after c (a .refused) (a .counted) (a .stored)
+  pub read-passed : (n : ℕ) (after : List ℕ) → Clear (textGrounds t A) → formSize (formIn t) ≤ mostRecords → Came (formIn t) A out x n after → Read n after
+  unfolding readAnswer readAfter readGrounds ground14
+  read-passed n after c l a =
+      answers-passed (formGrounds t A) rest (formSize (formIn t)) (postorder (formIn t)) out x n after
+      (clear-append (textGrounds t A) (ground14 (formSize (formIn t)) ∷ []) .1 (c, (le-ltb mostRecords _ l, tt))) (a .refused) (a .counted) (a .stored)
+
+-- Too many records.
+pub read-long : (t : List ℕ) (A : ℕ) (out : List ℕ) → Clear (textGrounds t A) → mostRecords < formSize (formIn t)
+    → (14 ≡ readAnswer t A (length out) .refusal) × ((0 ≡ readAnswer t A (length out) .count) × (out ≡ readAfter t A out))
+unfolding readAnswer readAfter readGrounds ground14 ofFirst
+read-long t A out c l =
+    let long : 14 ≡ firstOf (ground14 (formSize (formIn t)) ∷ []) = rw (lt-ltb mostRecords _ l) in
+    answers-refused (formGrounds t A) (recordsGrounds (postorder (formIn t)) (formSize (formIn t)) A (length out)) (formSize (formIn t)) (postorder (formIn t)) out 14
+    (refused-after (textGrounds t A) (ground14 (formSize (formIn t)) ∷ []) c long) (omega arith)
+
+pub text-numbered : (t : List ℕ) (A : ℕ) → Numbered (textGrounds t A)
+unfolding ground8 ground14-text ground19
+text-numbered t A = (omega arith, (omega arith, (omega arith, tt)))
+
+pub text-clear : (t : List ℕ) (A : ℕ) → Clear (textGrounds t A) → (length t ≤ mostText) × (isRead (read t) ≡ true)
+unfolding ground8 ground14-text ground19
+text-clear t A (_, (l, (r, _))) = (ltb-false mostText (length t) l, not-false _ r)

@@ -3,7 +3,8 @@
 --   atomGrounds e n A                5, of the first n records of e
 --   recordsGrounds e n A room        the same, and 10
 --   Sized new size out x c after     the answer for bytes `new`: 10 or none, their size, and the output `after`
---   Readable t                       t is the text of a formula that is not too long
+--   textGrounds t A                  8, 14 and 19, of a text
+--   Readable t n                     t is the text of a formula of n records, which are not too many
 --   Came F A out x c after           the answer for the text of F: 5, 10 or none, the number of records, and the output `after`
 use Prim.Native.Nat.{ℕ, _*_, _≤_}
 use mathlib.Core.Path.{_≡_}
@@ -15,11 +16,14 @@ use Rattle.meaning.specs.Record.{recordSize, mostRecords, count}
 use Rattle.meaning.specs.Formula.{Form}
 use Rattle.meaning.specs.Tree.{formSize, postorder}
 use Rattle.meaning.specs.Text.{mostText, read, isRead, formIn}
-use Rattle.meaning.specs.Refusal.{Ground, firstOf, ground5, ground10, ground18}
+use Rattle.meaning.specs.Refusal.{Ground, firstOf, ground5, ground8, ground10, ground14-text, ground18, ground19}
 use Rattle.meaning.specs.Service.{accepted}
 
 abbrev pub backGrounds : List ℕ → List Ground
 backGrounds s = each (count s) (λ r. ground18 s r ∷ [])
+
+abbrev pub textGrounds : List ℕ → ℕ → List Ground
+textGrounds t A = ground8 A ∷ ground14-text t ∷ ground19 t ∷ []
 
 abbrev pub atomGrounds : List ℕ → ℕ → ℕ → List Ground
 atomGrounds e n A = each n (λ r. ground5 e A r ∷ [])
@@ -32,10 +36,11 @@ pub record Sized (new : List ℕ) (size : ℕ) (out : List ℕ) (refusal n : ℕ
   pub counted : n ≡ accepted refusal size 0
   pub stored : after ≡ accepted refusal (written new out) out
 
-pub record Readable (t : List ℕ) : Type 0 where
+pub record Readable (t : List ℕ) (n : ℕ) : Type 0 where
   pub short : length t ≤ mostText
   pub formed : isRead (read t) ≡ true
-  pub few : formSize (formIn t) ≤ mostRecords
+  pub counts : n ≡ formSize (formIn t)
+  pub few : n ≤ mostRecords
 
 pub record Came (F : Form) (A : ℕ) (out : List ℕ) (refusal n : ℕ) (after : List ℕ) : Type 0 where
   pub refused : refusal ≡ firstOf (recordsGrounds (postorder F) (formSize F) A (length out))

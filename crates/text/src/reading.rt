@@ -5,9 +5,9 @@ ghost use Prim.Native.Nat.{_*_, _<_, _≤_};
 ghost use lib.ListN.{length};
 ghost use Rattle.meaning.specs.Record.{recordSize, mostRecords, count};
 ghost use Rattle.meaning.specs.Text.{formIn};
-ghost use Rattle.meaning.specs.Refusal.{firstOf, formGrounds, ground5};
+ghost use Rattle.meaning.specs.Refusal.{firstOf, ground5};
 ghost use Rattle.meaning.specs.Service.{readAnswer, readAfter};
-ghost use Rattle.text.specs.Texting.{Readable, atomGrounds, recordsGrounds, Came};
+ghost use Rattle.text.specs.Texting.{textGrounds, Readable, atomGrounds, recordsGrounds, Came};
 use records::kind;
 use records::layout;
 use refusals::Counted;
@@ -22,12 +22,19 @@ pub fn read_text(text: &[u8], atoms: u64, records: &mut [u8]) -> Counted
     if refusal != refusals::ACCEPTED {
         return Counted { refusal, count: 0 };
     }
-    read_formula(text, atoms, records)
+    let n = counting::size_of(text);
+    if layout::MOST_RECORDS < n {
+        return Counted {
+            refusal: refusals::TOO_LONG,
+            count: 0,
+        };
+    }
+    read_formula(text, n, atoms, records)
 }
 
-// 8; 14 and 19 for the text; 14 for its formula.
+// Of the text alone: 8, 14, 19.
 fn text_refusal(text: &[u8], atoms: u64) -> u8
-    ensures { λ x. ⌜ x ≡ firstOf (formGrounds (now (text .entry)) atoms) ⌝ }
+    ensures { λ x. ⌜ x ≡ firstOf (textGrounds (now (text .entry)) atoms) ⌝ }
 {
     if layout::MOST_ATOMS < atoms {
         return refusals::WRONG_SIZE;
@@ -38,18 +45,14 @@ fn text_refusal(text: &[u8], atoms: u64) -> u8
     if !parsing::is_formula(text) {
         return refusals::NOT_THE_FORM;
     }
-    if layout::MOST_RECORDS < parsing::size_of(text) {
-        return refusals::TOO_LONG;
-    }
     refusals::ACCEPTED
 }
 
-// The records of a text that is a formula's. Their atoms are looked at once they are written, so they are written into a buffer first.
-fn read_formula(text: &[u8], atoms: u64, out: &mut [u8]) -> Counted
-    requires { ⌜ Readable (now text) ⌝ }
+// The n records of a text that is a formula's. Their atoms are looked at once they are written, so they are written into a buffer first.
+fn read_formula(text: &[u8], n: usize, atoms: u64, out: &mut [u8]) -> Counted
+    requires { ⌜ Readable (now text) n ⌝ }
     ensures { λ v. ⌜ Came (formIn (now (text .entry))) atoms (now (out .entry)) (v .refusal) (v .count) (now (out .exit)) ⌝ }
 {
-    let n = parsing::size_of(text);
     let mut buffer = [0u8; layout::MOST_BYTES];
     parsing::write_records(text, &mut buffer);
     let refusal = records_refusal(&buffer[..], n, atoms, out.len());

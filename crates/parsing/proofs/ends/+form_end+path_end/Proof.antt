@@ -16,7 +16,7 @@ module _ (t : ℕ) where
   form-returns c = form-constant (c .before .before .byte-at .ensures .0) (c .before .match .keys1) (c .constant-end .ensures)
 
   form-returns-2 : of-form t form-end-lts.Need-returns-2
-  form-returns-2 c = form-atom (c .before .before .byte-at .ensures .0) (c .before .match .keys2) (c .number-end .ensures)
+  form-returns-2 c = form-atom (c .before .before .byte-at .ensures .0) (c .before .match .keys2) (c .number-at .ensures .ends)
 
   form-returns-3 : of-form t form-end-lts.Need-returns-3
   form-returns-3 c =

@@ -6,8 +6,9 @@ use native.Mathlib.Nat.{add-zero}
 use native.Mathlib.Omega.{arith}
 use borrow.Author.Needs.{needs}
 use Rattle.parsing.specs.Writing.{forms, paths}
+use Rattle.parsing.proofs.Numbers.{value-at}
 use Rattle.parsing.proofs.Parts.{byte-of, constant-leaf, atom-leaf, step-leaf, test-part, star-part, modal-parts, join-parts}
-use Rattle.parsing.proofs.Writing.{form-long, path-long, atom-bytes, atom-digit}
+use Rattle.parsing.proofs.Writing.{form-long, path-long}
 use Rattle.parsing.proofs.Writing.{leaf-room, leaf-wrote, one-asks, one-room, one-wrote, two-asks-first, two-asks-second, two-room, two-wrote}
 use Rattle.parsing.proofs.write.+write_form+write_path.Lts-write_form as write-form-lts
 use Rattle.parsing.proofs.write.+write_form+write_path.Lts-write_path as write-path-lts
@@ -34,28 +35,21 @@ module _ (t : ℕ) where
       let kind = end .before .before in
       let arm = kind .before in
       leaf-wrote forms _ _ _ (arm .before .byte-at .ensures .0) (constant-leaf _ (arm .match .keys1)) (end .constant-end .ensures)
-      (λ s h. (kind .choose .ensures ∙ rw (byte-of _ _ s h 1), refl)) (c .put .ensures)
-
-  form-number-at-requires : of-form t write-form-lts.Need-number-at-requires
-  form-number-at-requires c κs =
-      let here = c .before in
-      let s = form-start here in
-      (omega (arith, s .pre .1 .short, here .byte-at .ensures .1, c .match .keys2), atom-digit _ _ _ (here .byte-at .ensures .0) (c .match .keys2) (s .pre .1))
+      (λ s h. (kind .choose .ensures ∙ rw (← byte-of _ _ s h 0, add-zero), refl)) (c .put .ensures)
 
   form-put-requires-2 : of-form t write-form-lts.Need-put-requires-2
   form-put-requires-2 c κs =
-      let number = c .before .before in
+      let number = c .before in
       let arm = number .before in
       let here = arm .before in
-      (leaf-room forms _ _ _ (here .byte-at .ensures .0) (atom-leaf _ (arm .match .keys2)) (form-start here .pre .1), number .number-at .ensures .1, omega arith)
+      (leaf-room forms _ _ _ (here .byte-at .ensures .0) (atom-leaf _ (arm .match .keys2)) (form-start here .pre .1), number .number-at .ensures .small, omega arith)
 
   form-returns-2 : of-form t write-form-lts.Need-returns-2
   form-returns-2 c =
-      let end = c .before in
-      let number = end .before .before in
+      let number = c .before .before in
       let arm = number .before in
-      leaf-wrote forms _ _ _ (arm .before .byte-at .ensures .0) (atom-leaf _ (arm .match .keys2)) (end .number-end .ensures)
-      (λ s h. (refl, number .number-at .ensures .0 ∙ atom-bytes _ _ s h)) (c .put2 .ensures)
+      leaf-wrote forms _ _ _ (arm .before .byte-at .ensures .0) (atom-leaf _ (arm .match .keys2)) (number .number-at .ensures .ends)
+      (λ s h. (refl, value-at _ _ (number .number-at .ensures .value) s h)) (c .put2 .ensures)
 
   form-write-path-requires : of-form t write-form-lts.Need-write-path-requires
   form-write-path-requires c κs =
@@ -195,7 +189,7 @@ module _ (t : ℕ) where
 pub +write-form+write-path-spec : {M : Type 1} → statement M
 +write-form+write-path-spec = close μ-write-form μ-write-path (λ t. write-form-lts.spec (write-form-claims t) (write-form-at t) write-form.Post
     (λ c κs. search needs) (λ c. search needs) (λ c κs. search needs) (λ c. search needs) (λ c κs. search needs) (form-put-requires t)
-    (λ c. search needs) (form-number-at-requires t) (λ c. search needs) (λ c κs. search needs) (form-put-requires-2 t) (λ c. search needs)
+    (λ c. search needs) (λ c κs. search needs) (form-put-requires-2 t) (λ c. search needs)
     (form-write-path-requires t) (λ c. search needs) (λ c κs. search needs) (λ c κs. search needs) (form-write-form-requires t) (λ c. search needs)
     (λ c. search needs) (λ c. search needs) (form-put-requires-3 t) (form-returns t) (form-returns-2 t) (form-returns-3 t))
     λ t. write-path-lts.spec (write-path-claims t) (write-path-at t) write-path.Post

@@ -2,10 +2,8 @@
 use mathlib.Core.Path.{sym, _∙_}
 use borrow.Author.Needs.{needs}
 use borrow.Author.Tests.{lt-ltb, le-ltb, not-true, not-false}
-use native.Mathlib.Omega.{arith}
 use Rattle.meaning.specs.Text.{mostText}
-use Rattle.meaning.specs.Record.{mostRecords}
-use Rattle.meaning.specs.Refusal.{ofFirst, mostAtoms, ground8, ground14-text, ground19, ground14}
+use Rattle.meaning.specs.Refusal.{ofFirst, mostAtoms, ground8, ground14-text, ground19}
 use Rattle.text.proofs.reading.text_refusal.Statement.{statement}
 use Rattle.text.proofs.reading.text_refusal.Tie as tie
 
@@ -23,34 +21,11 @@ returns-3 c =
     let long = c .before .before in
     rw (le-ltb mostAtoms _ (long .before .if1 .left), le-ltb mostText _ (long .if2 .left), sym (c .before .is-formula .ensures) ∙ not-true _ (c .if3 .taken))
 
-size-of-requires : tie.Need-size-of-requires
-size-of-requires c κs = (omega (arith, c .before .before .if2 .left), sym (c .before .is-formula .ensures) ∙ not-false _ (c .if3 .left))
-
 returns-4 : tie.Need-returns-4
-unfolding ofFirst ground8 ground14-text ground19 ground14
+unfolding ofFirst ground8 ground14-text ground19
 returns-4 c =
-    let form = c .before .before in
-    let long = form .before .before in
-    rw (
-      le-ltb mostAtoms _ (long .before .if1 .left),
-      le-ltb mostText _ (long .if2 .left),
-      sym (form .before .is-formula .ensures) ∙ not-false _ (form .if3 .left),
-      ← c .before .size-of .ensures,
-      lt-ltb mostRecords _ (c .if4 .taken),
-    )
-
-returns-5 : tie.Need-returns-5
-unfolding ofFirst ground8 ground14-text ground19 ground14
-returns-5 c =
-    let form = c .before .before in
-    let long = form .before .before in
-    rw (
-      le-ltb mostAtoms _ (long .before .if1 .left),
-      le-ltb mostText _ (long .if2 .left),
-      sym (form .before .is-formula .ensures) ∙ not-false _ (form .if3 .left),
-      ← c .before .size-of .ensures,
-      le-ltb mostRecords _ (c .if4 .left),
-    )
+    let long = c .before .before in
+    rw (le-ltb mostAtoms _ (long .before .if1 .left), le-ltb mostText _ (long .if2 .left), sym (c .before .is-formula .ensures) ∙ not-false _ (c .if3 .left))
 
 pub text-refusal-spec : {M : Type 1} → statement M
-text-refusal-spec = tie.close (tie.spec returns returns-2 (λ c κs. search needs) returns-3 size-of-requires returns-4 returns-5)
+text-refusal-spec = tie.close (tie.spec returns returns-2 (λ c κs. search needs) returns-3 returns-4)

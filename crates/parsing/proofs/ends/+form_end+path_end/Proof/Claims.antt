@@ -13,7 +13,7 @@ use Rattle.parsing.proofs.ends.byte_end.Reads as byte-end-reads
 use Rattle.parsing.proofs.ends.constant_end.Reads as constant-end-reads
 use Rattle.parsing.proofs.ends.join_end.Reads as join-end-reads
 use Rattle.parsing.proofs.ends.mode_end.Reads as mode-end-reads
-use Rattle.parsing.proofs.ends.number_end.Reads as number-end-reads
+use Rattle.parsing.proofs.ends.number_at.Reads as number-at-reads
 use Rattle.parsing.specs.Places.{outside}
 
 abbrev pub μ-form-end : Measures 1 form-end-kinds.ps ℕ
@@ -40,8 +40,8 @@ form-end-claims t = (
   byte-at-reads.Learnt,
   constant-end-reads.Asked,
   constant-end-reads.Learnt,
-  number-end-reads.Asked,
-  number-end-reads.Learnt,
+  number-at-reads.Asked,
+  number-at-reads.Learnt,
   path-end-below t,
   path-end.Post,
   mode-end-reads.Asked,

@@ -13,7 +13,6 @@ use Rattle.parsing.proofs.ends.constant_end.Reads as constant-end-reads
 use Rattle.parsing.proofs.ends.join_end.Reads as join-end-reads
 use Rattle.parsing.proofs.ends.mode_end.Reads as mode-end-reads
 use Rattle.parsing.proofs.ends.number_at.Reads as number-at-reads
-use Rattle.parsing.proofs.ends.number_end.Reads as number-end-reads
 use Rattle.parsing.proofs.ends.byte_end.Reads as byte-end-reads
 use Rattle.parsing.proofs.write.choose.Reads as choose-reads
 use Rattle.parsing.proofs.write.put.Reads as put-reads
@@ -49,8 +48,6 @@ write-form-claims t = (
   put-reads.Learnt,
   number-at-reads.Asked,
   number-at-reads.Learnt,
-  number-end-reads.Asked,
-  number-end-reads.Learnt,
   write-path-below t,
   write-path.Post,
   mode-end-reads.Asked,

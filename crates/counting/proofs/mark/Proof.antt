@@ -1,9 +1,9 @@
--- `mark` meets its contract.
+-- `mark` meets its contract: the sum of seven tests.
 use native.Mathlib.Omega.{arith}
 use borrow.Author.Needs.{needs}
-use Rattle.parsing.specs.Marks.{mark}
-use Rattle.parsing.proofs.size.mark.Statement.{statement}
-use Rattle.parsing.proofs.size.mark.Tie as tie
+use Rattle.counting.specs.Marks.{mark}
+use Rattle.counting.proofs.mark.Statement.{statement}
+use Rattle.counting.proofs.mark.Tie as tie
 
 returns : tie.Need-returns
 unfolding mark

@@ -1,7 +1,8 @@
 -- A formula's spelling has as many marks as the formula has records.
+use Prim.Native.Char.{code}
 use Prim.Native.Nat.{ℕ, zero, suc, _+_, _/_, _%_, _*_, _≤_, _<_}
-use mathlib.Core.Path.{_≡_, refl, ap, _∙_}
-use mathlib.Core.Bool.{Bool, true, false, cond}
+use mathlib.Core.Path.{_≡_, refl, sym, ap, _∙_}
+use mathlib.Core.Bool.{Bool, true, false, cond, true≢false}
 use mathlib.Core.List.{List, [], _∷_, _++_}
 use mathlib.Core.Option.{Option, none, some}
 use native.Mathlib.Nat.{mod-lt}
@@ -16,10 +17,8 @@ use Rattle.meaning.specs.Formula.{Form, Path}
 use Rattle.meaning.specs.Tree.{formSize, pathSize}
 use Rattle.meaning.specs.Text.{decimalIn, decimal, modeSign, moveSign, spell, spellPath, isAhead, forward, forwardPath, read, isRead, orFalse, formIn}
 use Rattle.meaning.proofs.Fails.{and-holds}
-use Rattle.parsing.specs.Places.{nought}
-use Rattle.parsing.specs.Marks.{mark, marks}
+use Rattle.counting.specs.Marks.{is, mark, marks}
 use Rattle.meaning.proofs.Spelling.{reads}
-use Rattle.parsing.proofs.Places.{clash}
 
 -- The marks so far, and those that are left, are those of the text.
 pub record Marked (t : List ℕ) (i n : ℕ) : Type 0 where
@@ -44,17 +43,18 @@ marks-append [] y = omega arith
 marks-append (b ∷ x) y = omega (arith, marks-append x y)
 
 -- Digits are no marks.
-digit-mark : (d : ℕ) → d < 10 → mark (nought + d) ≡ 0
+digit-mark : (d : ℕ) → d < 10 → mark (code "0" + d) ≡ 0
 unfolding mark
 digit-mark d h =
+    let other : (c : ℕ) → (code "0" + d ≡ c → ⊥) → is (code "0" + d) c ≡ 0 = λ c n. rw (ne-eqb (code "0" + d) c n) in
     rw (
-      ne-eqb (48 + d) 35 (omega arith),
-      ne-eqb (48 + d) 112 (omega arith),
-      ne-eqb (48 + d) 38 (omega arith),
-      ne-eqb (48 + d) 63 (omega arith),
-      ne-eqb (48 + d) 42 (omega arith),
-      ne-eqb (48 + d) 43 (omega arith),
-      ne-eqb (48 + d) 59 (omega arith),
+      other (code "#") (omega arith),
+      other (code "p") (omega arith),
+      other (code "&") (omega arith),
+      other (code "?") (omega arith),
+      other (code "*") (omega arith),
+      other (code "+") (omega arith),
+      other (code ";") (omega arith),
     )
 
 decimal-marks : (m n : ℕ) → marks (decimalIn m n) ≡ 0
@@ -84,7 +84,7 @@ mutual
 
   path-marks : (P : Path) → forwardPath P ≡ true → marks (spellPath P) ≡ pathSize P
   path-marks (Path.move ahead) h = refl
-  path-marks (Path.move back) h = clash h
+  path-marks (Path.move back) h = absurd (true≢false (sym h))
   path-marks (Path.test f) h = omega (arith, form-marks f h)
   path-marks (Path.choice p q) h =
       let (x, y) = and-holds (forwardPath p) (forwardPath q) .0 h in
@@ -99,5 +99,5 @@ unfolding formIn isRead orFalse
 text-marks t h = go (read t) refl h
   where
     go : (r : Option Form) → read t ≡ r → isRead r ≡ true → marks t ≡ formSize (orFalse r)
-    go none e k = clash k
+    go none e k = absurd (true≢false (sym k))
     go (some F) e k = let s = reads t F e in ap marks (s .text) ∙ form-marks F (s .ahead-only)
