@@ -5,6 +5,7 @@
 --   Ends t f at e   the reading f, begun at the place `at`, ends at the place e
 --   Numbered t at e n   the same of an atom's number, which is n
 --   Deep read t at e   the same at every depth that is enough
+--   Stars t at e    from the place `at` on up to e stand stars, and none at e
 use Prim.Native.Char.{code}
 use Prim.Native.Nat.{ℕ, _+_, _≤_, _<_}
 use mathlib.Core.Path.{_≡_}
@@ -12,7 +13,7 @@ use mathlib.Core.Bool.{cond}
 use mathlib.Core.List.{List}
 use mathlib.Core.Option.{Option, none, some}
 use lib.Dec.{leb}
-use lib.ListN.{length, drop}
+use lib.ListN.{length, getD, drop}
 use Rattle.meaning.specs.Text.{then, else, after, ascii, readNumber}
 
 abbrev pub outside : ℕ
@@ -52,3 +53,9 @@ pub record Numbered (t : List ℕ) (at e n : ℕ) : Type 0 where
   pub ends : Ends t (λ u. rest (readNumber u)) at e
   pub value : n ≡ valueIn (then (textAt t at) readNumber)
   pub small : n < 65_536
+
+pub record Stars (t : List ℕ) (at e : ℕ) : Type 0 where
+  pub onward : at ≤ e
+  pub low : e ≤ outside
+  pub stars : (i : ℕ) → at ≤ i → i < e → getD t i 0 ≡ code "*"
+  pub over : getD t e 0 ≡ code "*" → ⊥

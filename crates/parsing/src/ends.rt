@@ -5,7 +5,7 @@ ghost use mathlib.Core.List.{_∷_, []};
 ghost use Prim.Native.Nat.{_*_, _-_, _<_, _≤_};
 ghost use lib.ListN.{length, getD};
 ghost use Rattle.meaning.specs.Text.{mostText, after, digit, twoDigits, number, readMode, readJoin, readForm, readPath};
-ghost use Rattle.parsing.specs.Places.{outside, nought, afterHash, rest, Ends, Numbered, Deep};
+ghost use Rattle.parsing.specs.Places.{outside, nought, afterHash, rest, Ends, Numbered, Deep, Stars};
 
 const OUTSIDE: usize = 1531;
 
@@ -164,19 +164,31 @@ pub fn form_end(text: &[u8], at: usize) -> usize
     }
 }
 
+// Stars, of which there may be many, take no call each: the path behind them decides.
 fn path_end(text: &[u8], at: usize) -> usize
     requires { ⌜ (length (now text) ≤ mostText) × (at ≤ outside) ⌝ }
     ensures { λ e. ⌜ Deep readPath (now (text .entry)) at e ⌝ }
 {
-    match byte_at(text, at) {
-        b'&' => byte_end(text, at + 1, b't'),
-        b'?' => form_end(text, at + 1),
-        b'*' => path_end(text, at + 1),
+    let from = stars_end(text, at);
+    match byte_at(text, from) {
+        b'&' => byte_end(text, from + 1, b't'),
+        b'?' => form_end(text, from + 1),
         b'(' => byte_end(
             text,
-            path_end(text, join_end(text, path_end(text, at + 1))),
+            path_end(text, join_end(text, path_end(text, from + 1))),
             b')',
         ),
         _ => OUTSIDE,
     }
+}
+
+fn stars_end(text: &[u8], at: usize) -> usize
+    requires { ⌜ (length (now text) ≤ mostText) × (at ≤ outside) ⌝ }
+    ensures { λ e. ⌜ Stars (now (text .entry)) at e ⌝ }
+{
+    let mut e = at;
+    while byte_at(text, e) == b'*' {
+        e += 1;
+    }
+    e
 }

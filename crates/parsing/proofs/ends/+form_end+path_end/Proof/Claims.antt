@@ -14,6 +14,7 @@ use Rattle.parsing.proofs.ends.constant_end.Reads as constant-end-reads
 use Rattle.parsing.proofs.ends.join_end.Reads as join-end-reads
 use Rattle.parsing.proofs.ends.mode_end.Reads as mode-end-reads
 use Rattle.parsing.proofs.ends.number_at.Reads as number-at-reads
+use Rattle.parsing.proofs.ends.stars_end.Reads as stars-end-reads
 use Rattle.parsing.specs.Places.{outside}
 
 abbrev pub μ-form-end : Measures 1 form-end-kinds.ps ℕ
@@ -54,6 +55,8 @@ form-end-claims t = (
 
 abbrev pub path-end-claims : ℕ → path-end-lts.Claims
 path-end-claims t = (
+  stars-end-reads.Asked,
+  stars-end-reads.Learnt,
   byte-at-reads.Asked,
   byte-at-reads.Learnt,
   byte-end-reads.Asked,
