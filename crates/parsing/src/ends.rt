@@ -7,12 +7,13 @@ ghost use lib.ListN.{length, getD};
 ghost use Rattle.meaning.specs.Text.{mostText, after, digit, twoDigits, number, readMode, readJoin, readForm, readPath};
 ghost use Rattle.parsing.specs.Places.{outside, nought, afterHash, rest, Ends, Numbered, Deep, Stars};
 
+// A place beyond every text.
 const OUTSIDE: usize = 1531;
 
 // The atoms that text may name.
 const ATOMS: usize = 32;
 
-// 0 beyond the end: so a byte above 0 is within the text.
+// The byte at a place, and 0 beyond the end: so a byte above 0 is within the text.
 pub fn byte_at(text: &[u8], at: usize) -> u8
     ensures { λ b. ⌜ (b ≡ getD (now (text .entry)) at 0) × (b ≤ 255 * (length (now (text .entry)) - at)) ⌝ }
 {
@@ -20,6 +21,7 @@ pub fn byte_at(text: &[u8], at: usize) -> u8
 }
 
 // ---- signs
+// Where one byte ends, if it stands at the place.
 pub fn byte_end(text: &[u8], at: usize, b: u8) -> usize
     requires { ⌜ (length (now text) ≤ mostText) × (at ≤ outside) ⌝ }
     ensures { λ e. ⌜ Ends (now (text .entry)) (after (b ∷ [])) at e ⌝ }
@@ -30,6 +32,7 @@ pub fn byte_end(text: &[u8], at: usize, b: u8) -> usize
     if text[at] == b { at + 1 } else { OUTSIDE }
 }
 
+// The same of several bytes.
 fn sign_end(text: &[u8], at: usize, sign: &[u8]) -> usize
     requires { ⌜ (length (now text) ≤ mostText) × (at ≤ outside) ⌝ }
     ensures { λ e. ⌜ Ends (now (text .entry)) (after (now (sign .entry))) at e ⌝ }
@@ -55,6 +58,7 @@ pub fn constant_end(text: &[u8], at: usize) -> usize
     sign_end(text, at, b"true")
 }
 
+// Of a diamond's or a box's sign.
 pub fn mode_end(text: &[u8], at: usize) -> usize
     requires { ⌜ (length (now text) ≤ mostText) × (at ≤ outside) ⌝ }
     ensures { λ e. ⌜ Ends (now (text .entry)) (λ u. rest (readMode u)) at e ⌝ }
@@ -66,6 +70,7 @@ pub fn mode_end(text: &[u8], at: usize) -> usize
     sign_end(text, at, b".>*")
 }
 
+// Of a choice's or a sequence's sign.
 pub fn join_end(text: &[u8], at: usize) -> usize
     requires { ⌜ (length (now text) ≤ mostText) × (at ≤ outside) ⌝ }
     ensures { λ e. ⌜ Ends (now (text .entry)) (λ u. rest (readJoin u)) at e ⌝ }
@@ -78,6 +83,7 @@ pub fn join_end(text: &[u8], at: usize) -> usize
 }
 
 // ---- an atom's number
+// From 0 to 9.
 fn is_digit(b: u8) -> bool
     ensures { λ r. ⌜ r ≡ digit b ⌝ }
 {
@@ -87,6 +93,7 @@ fn is_digit(b: u8) -> bool
     b <= b'9'
 }
 
+// Whether two bytes are the digits of a number from 10 to 31.
 fn two_digits(b: u8, c: u8) -> bool
     ensures { λ r. ⌜ r ≡ twoDigits b c ⌝ }
 {
@@ -120,6 +127,7 @@ pub struct Atom {
     pub value: usize,
 }
 
+// The number that stands at a place: two digits where they are one, else one digit.
 pub fn number_at(text: &[u8], at: usize) -> Atom
     requires { ⌜ (length (now text) ≤ mostText) × (at ≤ outside) ⌝ }
     ensures { λ v. ⌜ Numbered (now (text .entry)) at (v .end) (v .value) ⌝ }
@@ -145,6 +153,7 @@ pub fn number_at(text: &[u8], at: usize) -> Atom
 }
 
 // ---- formulas and paths
+// Where the formula at a place ends.
 pub fn form_end(text: &[u8], at: usize) -> usize
     requires { ⌜ (length (now text) ≤ mostText) × (at ≤ outside) ⌝ }
     ensures { λ e. ⌜ Deep readForm (now (text .entry)) at e ⌝ }
@@ -164,7 +173,7 @@ pub fn form_end(text: &[u8], at: usize) -> usize
     }
 }
 
-// Stars, of which there may be many, take no call each: the path behind them decides.
+// Where the path at a place ends. Stars, of which there may be many, take no call each: the path behind them decides.
 fn path_end(text: &[u8], at: usize) -> usize
     requires { ⌜ (length (now text) ≤ mostText) × (at ≤ outside) ⌝ }
     ensures { λ e. ⌜ Deep readPath (now (text .entry)) at e ⌝ }
@@ -182,6 +191,7 @@ fn path_end(text: &[u8], at: usize) -> usize
     }
 }
 
+// Where a run of stars ends.
 fn stars_end(text: &[u8], at: usize) -> usize
     requires { ⌜ (length (now text) ≤ mostText) × (at ≤ outside) ⌝ }
     ensures { λ e. ⌜ Stars (now (text .entry)) at e ⌝ }

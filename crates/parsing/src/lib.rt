@@ -12,6 +12,7 @@ ghost use Rattle.meaning.specs.Record.{mostRecords};
 ghost use Rattle.meaning.specs.Tree.{formSize, postorder};
 use records::layout;
 
+// Whether all of the text is a formula.
 pub fn is_formula(text: &[u8]) -> bool
     requires { ⌜ length (now text) ≤ mostText ⌝ }
     ensures { λ b. ⌜ b ≡ isRead (read (now (text .entry))) ⌝ }

@@ -47,6 +47,7 @@ pub fn write_form(text: &[u8], at: usize, buffer: &mut [u8; layout::MOST_BYTES],
     }
 }
 
+// Writes the path at a place, its first record as number n.
 fn write_path(text: &[u8], at: usize, buffer: &mut [u8; layout::MOST_BYTES], n: usize) -> Made
     requires { ⌜ Readable paths (now text) at n ⌝ }
     ensures { λ v. ⌜ Wrote paths (now (text .entry)) at n (now (buffer .entry)) (v .end) (v .next) (now (buffer .exit)) ⌝ }
