@@ -12,7 +12,7 @@ use lib.ListN.{length, length-append}
 use Rattle.meaning.specs.Record.{core, count, diamond, box, ahead, back}
 use Rattle.meaning.specs.Formula.{Form, Path, formAtoms, pathAtoms}
 use Rattle.meaning.specs.Tree.{formAt, formSize, pathSize}
-use Rattle.meaning.specs.Text.{decimal, decimalIn, falseSign, modeSign, moveSign, spell, spellPath, textAtoms, mostText}
+use Rattle.meaning.specs.Text.{decimal, decimalIn, falseSign, modeSign, moveSign, spell, spellPath, wholeText, textAtoms, mostText}
 use Rattle.meaning.specs.WellFormed.{WellFormed}
 use Rattle.meaning.proofs.Bounds.{le-or-lt}
 use Rattle.meaning.proofs.Atoms.{form-atoms}
@@ -62,7 +62,7 @@ mutual
   path-long (Path.sequence p q) low = simp length-append (omega (arith, path-long p (omega arith), path-long q (omega arith)))
   path-long (Path.star p) low = simp length-append (omega (arith, path-long p low))
 
-pub whole-fits : {s : List ℕ} {A : ℕ} → WellFormed core s A → length (spell (formAt s (pred (count s)))) ≤ mostText
+pub whole-fits : {s : List ℕ} {A : ℕ} → WellFormed core s A → length (wholeText s) ≤ mostText
 whole-fits {s} w =
     let r = pred (count s) in
     let l : r < count s = omega (arith, w .some) in

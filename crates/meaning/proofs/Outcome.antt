@@ -22,7 +22,7 @@ use Rattle.meaning.specs.Judge.{Verdict, verdict}
 use Rattle.meaning.specs.Refusal.{firstOf, judgeGrounds, wholeForm}
 use Rattle.meaning.specs.Service.{accepted, table, judgment, checkAnswer, expandAnswer, expandAfter, valueAnswer, valueAfter, translateAnswer}
 use Rattle.meaning.specs.Service.{translateAfter, writeAnswer, writeAfter, readAnswer, readAfter, judgeAnswer, rowBy, rowOf}
-use Rattle.meaning.specs.Text.{spell, formIn}
+use Rattle.meaning.specs.Text.{wholeText, formIn}
 use Rattle.meaning.specs.Reason.{Reason, First, noRoom, CheckRefused, ExpandRefused, ValueRefused, TranslateRefused, JudgeRefused, wrongLength}
 use Rattle.meaning.specs.Reason.{wrongSize, lastIsPath, wrongCell, WriteRefused, ReadRefused}
 use Rattle.meaning.specs.Outcome.{Answered, RowsAre, VerdictIs, RulesRead}
@@ -108,7 +108,7 @@ pub write-answered : (s : List ℕ) (A : ℕ) (out : List ℕ) →
     Answered (WriteRefused s A (length out)) (answer .refusal) (answer .count) (answer .count) out (writeAfter s A out)
 unfolding writeAnswer writeAfter
 write-answered s A out =
-    answered _ (spell (formAt s (pred (count s)))) (first-of (write-ordered s A (length out))) (λ e. rw (eq-eqb _ 0 e)) (λ l. inr (inr (refl, l)))
+    answered _ (wholeText s) (first-of (write-ordered s A (length out))) (λ e. rw (eq-eqb _ 0 e)) (λ l. inr (inr (refl, l)))
 
 pub read-answered : (t : List ℕ) (A : ℕ) (out : List ℕ) →
     let answer = readAnswer t A (length out) in

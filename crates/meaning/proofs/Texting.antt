@@ -4,17 +4,16 @@ use Prim.Native.Nat.{ℕ, zero, suc, pred, _+_, _*_, _<_, _≤_, zero-le}
 use mathlib.Core.Path.{_≡_, refl, sym}
 use mathlib.Core.Bool.{true, false, true≢false}
 use mathlib.Core.Logic.{_↔_, inl, inr}
-use mathlib.Core.List.{List, [], _∷_, _++_}
+use mathlib.Core.List.{List, _++_}
 use mathlib.Core.Option.{some}
 use native.Mathlib.Nat.{le-refl}
 use native.Mathlib.Omega.{arith}
 use lib.ListN.{length, length-append}
-use Rattle.meaning.specs.Run.{each}
 use Rattle.meaning.specs.Record.{core, recordSize, mostRecords, count, kindAt, known, Kind, ahead, back, Use, unused, atomNumber, child, useA, useB, columnsOf, recordBytes}
 use Rattle.meaning.specs.Formula.{Form, Path, formAtoms, pathAtoms}
 use Rattle.meaning.specs.Tree.{Tree, asForm, asPath, nodeOf, treeAt, formAt, formSize, pathSize, formFrom, pathFrom, postorder}
-use Rattle.meaning.specs.Text.{spell, isAhead, forward, forwardPath, mostText, Spells, read, isRead, formIn}
-use Rattle.meaning.specs.Refusal.{mostAtoms, isBack, ground5, ground8, ground10, ground14, ground14-text, ground18, ground19, checkGrounds, writeGrounds, readGrounds, treeGrounds, formGrounds, ground1}
+use Rattle.meaning.specs.Text.{spell, wholeText, isAhead, forward, forwardPath, mostText, Spells, read, isRead, formIn}
+use Rattle.meaning.specs.Refusal.{mostAtoms, isBack, ground5, ground8, ground10, ground14, ground14-text, ground18, ground19, checkGrounds, backGrounds, writeGrounds, readGrounds, treeGrounds, formGrounds, ground1}
 use Rattle.meaning.specs.WellFormed.{Fits, WellFormed}
 use Rattle.meaning.proofs.Fails.{tests, and-holds}
 use Rattle.meaning.proofs.Bounds.{le-or-lt}
@@ -30,7 +29,7 @@ use Rattle.meaning.proofs.Accepted.{clear-well-formed, tree-numbered}
 pub record Writes (s : List ℕ) (A room : ℕ) : Type 0 where
   pub formed : WellFormed core s A
   pub onward : (r : ℕ) → r < count s → isBack (kindAt s r) ≡ false
-  pub enough : length (spell (formAt s (pred (count s)))) ≤ room
+  pub enough : length (wholeText s) ≤ room
 
 -- The text of a formula that is not too long, with atoms that there are, and room for its records.
 pub record Takes (t : List ℕ) (A room : ℕ) : Type 0 where
@@ -64,7 +63,7 @@ read-clear t A room = simp (clear-append, each-clears, form-clear, tests) (
 )
 
 -- Every ground has a number above 0.
-pub back-numbered : (s : List ℕ) (A : ℕ) → Numbered (checkGrounds s A ++ each (count s) (λ r. ground18 s r ∷ []))
+pub back-numbered : (s : List ℕ) (A : ℕ) → Numbered (checkGrounds s A ++ backGrounds s)
 unfolding checkGrounds ground1 ground8 ground18
 back-numbered s A =
     (omega arith, (omega arith, numbered-append (treeGrounds core s A) _ (tree-numbered core s A) (numbered-each _ _ (λ r. omega arith))))

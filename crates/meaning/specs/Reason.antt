@@ -14,8 +14,8 @@ use lib.ListN.{length, getD}
 use Rattle.meaning.specs.Record.{Language, core, full, known, recordSize, mostRecords, count, zeroByte, fieldA, fieldB, kindAt, move, star, Sort, path, sortOf}
 use Rattle.meaning.specs.Record.{Use, unused, atomNumber, child, useA, useB, places, ahead, back}
 use Rattle.meaning.specs.Formula.{Form, mayStand, goes}
-use Rattle.meaning.specs.Tree.{formAt, pathAt, formSize, postorder}
-use Rattle.meaning.specs.Text.{spell, mostText, Spells, formIn}
+use Rattle.meaning.specs.Tree.{pathAt, formSize, postorder}
+use Rattle.meaning.specs.Text.{wholeText, mostText, Spells, formIn}
 use Rattle.meaning.specs.Rule.{ruleSize, ruleWord, symbolOf, isPrevious}
 use Rattle.meaning.specs.Translation.{ruleSum}
 use Rattle.meaning.specs.Judge.{ruleCount}
@@ -165,7 +165,7 @@ TranslateRefused s A room ρ =
 abbrev pub WriteRefused : List ℕ → ℕ → ℕ → Reason → Type 0
 WriteRefused s A room ρ =
     CheckRefused s A ρ ⊎ ((r : ℕ) × (r < count s) × (noSign r when (kindAt s r ≡ move back)) ρ)
-    ⊎ (noRoom when (room < length (spell (formAt s (pred (count s)))))) ρ
+    ⊎ (noRoom when (room < length (wholeText s))) ρ
 
 abbrev pub ReadRefused : List ℕ → ℕ → ℕ → Reason → Type 0
 ReadRefused t A room ρ =

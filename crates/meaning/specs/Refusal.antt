@@ -16,7 +16,7 @@ use Rattle.meaning.specs.Tree.{formAt, pathAt, formSize, postorder}
 use Rattle.meaning.specs.Rule.{Rule, ruleSize, ruleAt, symbolOf, isPrevious}
 use Rattle.meaning.specs.Translation.{translation}
 use Rattle.meaning.specs.Judge.{ruleCount}
-use Rattle.meaning.specs.Text.{spell, isAhead, mostText, read, isRead, formIn}
+use Rattle.meaning.specs.Text.{wholeText, isAhead, mostText, read, isRead, formIn}
 
 pub record Ground : Type 0 where
   pub number : ℕ
@@ -222,19 +222,26 @@ starredGrounds s A = checkGrounds s A ++ starGrounds s
 unfoldable pub translateGrounds : List ℕ → ℕ → ℕ → List Ground
 translateGrounds s A room = starredGrounds s A ++ (ground10 (ruleSize * length (translation s A)) room ∷ [])
 
--- Of the text: its form. Of the formula F that it is: 14; of each record that would be written, 5; and 10.
+-- Of each record, a back step.
+abbrev pub backGrounds : List ℕ → List Ground
+backGrounds s = each (count s) (λ r. ground18 s r ∷ [])
+
+-- Of the first n records of e: 5 of each, and then 10.
+abbrev pub atomGrounds : List ℕ → ℕ → ℕ → List Ground
+atomGrounds e n A = each n (λ r. ground5 e A r ∷ [])
+
+abbrev pub recordsGrounds : List ℕ → ℕ → ℕ → ℕ → List Ground
+recordsGrounds e n A room = atomGrounds e n A ++ (ground10 (recordSize * n) room ∷ [])
+
+-- Of the text: its form. Of the formula that it is: 14; of the records that would be written, 5; and 10.
 abbrev pub formGrounds : List ℕ → ℕ → List Ground
 formGrounds t A = ground8 A ∷ ground14-text t ∷ ground19 t ∷ ground14 (formSize (formIn t)) ∷ []
 
 unfoldable pub readGrounds : List ℕ → ℕ → ℕ → List Ground
-readGrounds t A room =
-    formGrounds t A
-    ++ (each (formSize (formIn t)) (λ r. ground5 (postorder (formIn t)) A r ∷ []) ++ (ground10 (recordSize * formSize (formIn t)) room ∷ []))
+readGrounds t A room = formGrounds t A ++ recordsGrounds (postorder (formIn t)) (formSize (formIn t)) A room
 
 unfoldable pub writeGrounds : List ℕ → ℕ → ℕ → List Ground
-writeGrounds s A room =
-    checkGrounds s A
-    ++ (each (count s) (λ r. ground18 s r ∷ []) ++ (ground10 (length (spell (formAt s (pred (count s))))) room ∷ []))
+writeGrounds s A room = checkGrounds s A ++ (backGrounds s ++ (ground10 (length (wholeText s)) room ∷ []))
 
 unfoldable pub judgeGrounds : List ℕ → ℕ → ℕ → List ℕ → List Ground
 judgeGrounds ws W L cells =

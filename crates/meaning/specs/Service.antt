@@ -16,7 +16,7 @@ use Rattle.meaning.specs.Value.{Row, valueOf}
 use Rattle.meaning.specs.Rule.{words}
 use Rattle.meaning.specs.Translation.{translation}
 use Rattle.meaning.specs.Judge.{Verdict, verdict}
-use Rattle.meaning.specs.Text.{spell, formIn}
+use Rattle.meaning.specs.Text.{wholeText, formIn}
 use Rattle.meaning.specs.Refusal.{firstOf, checkGrounds, expandGrounds, valueGrounds, translateGrounds, writeGrounds, readGrounds, judgeGrounds, wholeForm}
 
 -- What is given where the refusal is 0, and what else.
@@ -77,10 +77,10 @@ translateAfter s A out = accepted (translateAnswer s A (length out) .refusal) (w
 unfoldable pub writeAnswer : List ℕ → ℕ → ℕ → Counted
 writeAnswer s A room =
     let refusal = firstOf (writeGrounds s A room) in
-    record { refusal = refusal; count = accepted refusal (length (spell (formAt s (pred (count s))))) 0 }
+    record { refusal = refusal; count = accepted refusal (length (wholeText s)) 0 }
 
 unfoldable pub writeAfter : List ℕ → ℕ → List ℕ → List ℕ
-writeAfter s A out = accepted (writeAnswer s A (length out) .refusal) (written (spell (formAt s (pred (count s)))) out) out
+writeAfter s A out = accepted (writeAnswer s A (length out) .refusal) (written (wholeText s) out) out
 
 unfoldable pub readAnswer : List ℕ → ℕ → ℕ → Counted
 readAnswer t A room =

@@ -1,11 +1,12 @@
 -- Specification, Text: a core formula as text, in the signs of source 004's Table 2.
 --   ascii t, decimal n       the bytes of the text t; the number n in decimal
 --   spell F, spellPath P     how they are spelled: every diamond, box, choice and sequence stands in brackets
+--   wholeText s              the text of the formula that the records s are
 --   Spells F t               t is the text of F: F has no back step, which the table has no sign for, and only the atoms p0 to p31
 --   read t                   the formula whose text t is, or none: proofs/Spelling shows that it undoes the spelling
 --   formIn t                 that formula, where there is one
 use Prim.Native.Char.{code}
-use Prim.Native.Nat.{ℕ, zero, suc, _+_, _*_, _-_, _/_, _%_, _≤_}
+use Prim.Native.Nat.{ℕ, zero, suc, pred, _+_, _*_, _-_, _/_, _%_, _≤_}
 use Prim.Native.String.{String, [] as []ˢ, _∷_ as _∷ˢ_}
 use mathlib.Core.Path.{_≡_}
 use mathlib.Core.Bool.{Bool, true, false, cond, _&&_}
@@ -13,8 +14,9 @@ use mathlib.Core.List.{List, [], _∷_, _++_}
 use mathlib.Core.Option.{Option, none, some}
 use lib.ListN.{length}
 use lib.Dec.{leb, ltb, eqb}
-use Rattle.meaning.specs.Record.{Mode, diamond, box, Way, ahead, back}
+use Rattle.meaning.specs.Record.{Mode, diamond, box, Way, ahead, back, count}
 use Rattle.meaning.specs.Formula.{Form, Path, formAtoms}
+use Rattle.meaning.specs.Tree.{formAt}
 
 -- ---- characters
 abbrev pub ascii : String → List ℕ
@@ -90,6 +92,9 @@ unfoldable mutual
   spellPath (Path.choice p q) = opening ++ (spellPath p ++ (choiceSign ++ (spellPath q ++ closing)))
   spellPath (Path.sequence p q) = opening ++ (spellPath p ++ (sequenceSign ++ (spellPath q ++ closing)))
   spellPath (Path.star p) = starSign ++ spellPath p
+
+abbrev pub wholeText : List ℕ → List ℕ
+wholeText s = spell (formAt s (pred (count s)))
 
 -- No back step anywhere, tests included.
 unfoldable pub isAhead : Way → Bool

@@ -2,11 +2,10 @@
 --   signBytes n           the characters of the sign n
 --   ownSign kind a        the sign of a record of the kind whose field a holds a; a back step has none
 --   textAt s r            the text of record r's tree
---   wholeText s           that of the formula
 --   Spellable s           s is the records of a formula in core kinds
 --   Spelling s r at       r is one of them, and its text fits from the place `at` on
 --   Put old at t e new    `new` is `old` with t stored from `at` on, and e is the place after t
-use Prim.Native.Nat.{ℕ, zero, suc, pred, _+_, _/_, _%_, _<_, _≤_}
+use Prim.Native.Nat.{ℕ, zero, suc, _+_, _/_, _%_, _<_, _≤_}
 use mathlib.Core.Path.{_≡_}
 use mathlib.Core.Bool.{true, false, cond}
 use mathlib.Core.List.{List, [], _∷_, _++_}
@@ -15,7 +14,7 @@ use lib.ListN.{length}
 use lib.Seq.{sets}
 use Rattle.meaning.specs.Record.{core, count, kindAt, Sort, sortOf}
 use Rattle.meaning.specs.Record.{Kind, constant, atom, modal, move, test, choice, sequence, star, shorthand, unknown}
-use Rattle.meaning.specs.Tree.{Tree, asForm, asPath, treeAt, formAt}
+use Rattle.meaning.specs.Tree.{Tree, asForm, asPath, treeAt}
 use Rattle.meaning.specs.Text.{falseSign, trueSign, atomSign, modeSign, moveSign, testSign, choiceSign, sequenceSign, starSign}
 use Rattle.meaning.specs.Text.{decimal, spell, spellPath, mostText}
 use Rattle.meaning.specs.WellFormed.{WellFormed}
@@ -52,9 +51,6 @@ textOf Sort.path t = spellPath (asPath t)
 
 abbrev pub textAt : List ℕ → ℕ → List ℕ
 textAt s r = textOf (sortOf (kindAt s r)) (treeAt s r)
-
-abbrev pub wholeText : List ℕ → List ℕ
-wholeText s = spell (formAt s (pred (count s)))
 
 pub record Spellable (s : List ℕ) : Type 0 where
   pub atoms : ℕ

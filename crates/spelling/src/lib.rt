@@ -4,7 +4,8 @@ mod sign;
 ghost use mathlib.Core.Path.{_≡_};
 ghost use lib.ListN.{length};
 ghost use lib.Seq.{sets};
-ghost use Rattle.spelling.specs.Spelling.{textAt, wholeText, Spellable, Spelling, Put};
+ghost use Rattle.meaning.specs.Text.{wholeText};
+ghost use Rattle.spelling.specs.Spelling.{textAt, Spellable, Spelling, Put};
 use records::layout;
 
 // No formula's text has more bytes.

@@ -1,6 +1,6 @@
 -- The answers of both services. Their grounds are those of what they are given, and after these those of what comes out; what comes out is
 -- in a buffer, from which it is copied where there is room.
-use Prim.Native.Nat.{ℕ, zero, suc, pred, _+_, _*_, _<_, _≤_}
+use Prim.Native.Nat.{ℕ, zero, suc, _+_, _*_, _<_, _≤_}
 use mathlib.Core.Path.{_≡_, refl, sym, _∙_}
 use mathlib.Core.Bool.{true}
 use mathlib.Core.List.{List, [], _∷_, _++_, append-assoc}
@@ -12,14 +12,14 @@ use borrow.Author.Tests.{lt-ltb, le-ltb, ltb-false, eq-eqb, ne-eqb, not-false}
 use Rattle.meaning.specs.Run.{each, written}
 use Rattle.meaning.specs.Record.{core, recordSize, mostRecords, count}
 use Rattle.meaning.specs.Formula.{Form, formAtoms}
-use Rattle.meaning.specs.Tree.{formAt, formSize, postorder}
-use Rattle.meaning.specs.Text.{spell, mostText, read, isRead, formIn}
-use Rattle.meaning.specs.Refusal.{Ground, ofFirst, firstOf, ground5, ground8, ground10, ground14, ground14-text, ground19, checkGrounds, formGrounds, writeGrounds, readGrounds}
+use Rattle.meaning.specs.Tree.{formSize, postorder}
+use Rattle.meaning.specs.Text.{wholeText, mostText, read, isRead, formIn}
+use Rattle.meaning.specs.Refusal.{Ground, ofFirst, firstOf, ground5, ground8, ground10, ground14, ground14-text, ground19, checkGrounds, backGrounds, atomGrounds, recordsGrounds, formGrounds, writeGrounds, readGrounds}
 use Rattle.meaning.specs.Service.{accepted, writeAnswer, writeAfter, readAnswer, readAfter}
 use Rattle.meaning.proofs.First.{Clear, Numbered, none-clear, clear-skip, found-stop, clear-append, numbered-append, numbered-each}
 use Rattle.meaning.proofs.Stores.{sets-written, front-copied}
 use Rattle.meaning.proofs.Postorder.{form-part}
-use Rattle.text.specs.Texting.{textGrounds, backGrounds, atomGrounds, recordsGrounds, Sized, Came}
+use Rattle.text.specs.Texting.{textGrounds, Sized, Came}
 
 -- ---- grounds of what is given, and of what comes out
 module _ (gs ks : List Ground) {x : ℕ} where
@@ -126,7 +126,7 @@ module _ (s : List ℕ) (A : ℕ) (out : List ℕ) (x : ℕ) where
       (x ≡ writeAnswer s A (length out) .refusal) × ((n ≡ writeAnswer s A (length out) .count) × (after ≡ writeAfter s A out))
 
   abbrev text : List ℕ
-  text = spell (formAt s (pred (count s)))
+  text = wholeText s
 
   abbrev given : List Ground
   given = checkGrounds s A ++ backGrounds s

@@ -1,35 +1,23 @@
 -- What the parts of writing and reading text ask and leave.
---   backGrounds s                    18, of each record
---   atomGrounds e n A                5, of the first n records of e
---   recordsGrounds e n A room        the same, and 10
 --   Sized new size out x c after     the answer for bytes `new`: 10 or none, their size, and the output `after`
 --   textGrounds t A                  8, 14 and 19, of a text
 --   Readable t n                     t is the text of a formula of n records, which are not too many
 --   Came F A out x c after           the answer for the text of F: 5, 10 or none, the number of records, and the output `after`
-use Prim.Native.Nat.{ℕ, _*_, _≤_}
+use Prim.Native.Nat.{ℕ, _≤_}
 use mathlib.Core.Path.{_≡_}
 use mathlib.Core.Bool.{true}
-use mathlib.Core.List.{List, [], _∷_, _++_}
+use mathlib.Core.List.{List, [], _∷_}
 use lib.ListN.{length}
-use Rattle.meaning.specs.Run.{each, written}
-use Rattle.meaning.specs.Record.{recordSize, mostRecords, count}
+use Rattle.meaning.specs.Run.{written}
+use Rattle.meaning.specs.Record.{mostRecords}
 use Rattle.meaning.specs.Formula.{Form}
 use Rattle.meaning.specs.Tree.{formSize, postorder}
 use Rattle.meaning.specs.Text.{mostText, read, isRead, formIn}
-use Rattle.meaning.specs.Refusal.{Ground, firstOf, ground5, ground8, ground10, ground14-text, ground18, ground19}
+use Rattle.meaning.specs.Refusal.{Ground, firstOf, ground8, ground10, ground14-text, ground19, recordsGrounds}
 use Rattle.meaning.specs.Service.{accepted}
-
-abbrev pub backGrounds : List ℕ → List Ground
-backGrounds s = each (count s) (λ r. ground18 s r ∷ [])
 
 abbrev pub textGrounds : List ℕ → ℕ → List Ground
 textGrounds t A = ground8 A ∷ ground14-text t ∷ ground19 t ∷ []
-
-abbrev pub atomGrounds : List ℕ → ℕ → ℕ → List Ground
-atomGrounds e n A = each n (λ r. ground5 e A r ∷ [])
-
-abbrev pub recordsGrounds : List ℕ → ℕ → ℕ → ℕ → List Ground
-recordsGrounds e n A room = atomGrounds e n A ++ (ground10 (recordSize * n) room ∷ [])
 
 pub record Sized (new : List ℕ) (size : ℕ) (out : List ℕ) (refusal n : ℕ) (after : List ℕ) : Type 0 where
   pub sized : refusal ≡ firstOf (ground10 size (length out) ∷ [])

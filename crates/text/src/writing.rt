@@ -2,10 +2,11 @@
 ghost use mathlib.Core.Path.{_≡_};
 ghost use mathlib.Core.List.{_++_};
 ghost use lib.ListN.{length};
-ghost use Rattle.meaning.specs.Refusal.{firstOf, checkGrounds};
+ghost use Rattle.meaning.specs.Text.{wholeText};
+ghost use Rattle.meaning.specs.Refusal.{firstOf, checkGrounds, backGrounds};
 ghost use Rattle.meaning.specs.Service.{writeAnswer, writeAfter};
-ghost use Rattle.spelling.specs.Spelling.{Spellable, wholeText};
-ghost use Rattle.text.specs.Texting.{backGrounds, Sized};
+ghost use Rattle.spelling.specs.Spelling.{Spellable};
+ghost use Rattle.text.specs.Texting.{Sized};
 use records::kind;
 use records::layout;
 use refusals::Counted;

@@ -14,7 +14,7 @@ use Rattle.meaning.specs.Run.{each, written}
 use Rattle.meaning.specs.Record.{core, recordSize, count, kindAt, fieldA, fieldB, Use, unused, atomNumber, child, useA, useB}
 use Rattle.meaning.specs.Formula.{Form, formAtoms}
 use Rattle.meaning.specs.Tree.{formAt, formSize, postorder}
-use Rattle.meaning.specs.Text.{spell, textAtoms, Spells, read, isRead, orFalse, formIn}
+use Rattle.meaning.specs.Text.{spell, wholeText, textAtoms, Spells, read, isRead, orFalse, formIn}
 use Rattle.meaning.specs.Refusal.{mostAtoms, beyond, ground5, recordGrounds, treeGrounds}
 use Rattle.meaning.specs.WellFormed.{Fits, WellFormed}
 use Rattle.meaning.specs.Service.{writeAnswer, writeAfter, readAnswer, readAfter}
@@ -36,11 +36,11 @@ writes : (s : List ℕ) (A room : ℕ) → writeAnswer s A room .refusal ≡ 0 �
 unfolding writeAnswer
 writes s A room e = write-clear s A room .0 (none-clear _ (write-ordered s A room .numbered) e)
 
-writes-answer : (s : List ℕ) (A room : ℕ) → Writes s A room → writeAnswer s A room ≡ given (length (spell (formAt s (pred (count s)))))
+writes-answer : (s : List ℕ) (A room : ℕ) → Writes s A room → writeAnswer s A room ≡ given (length (wholeText s))
 unfolding writeAnswer
 writes-answer s A room w = rw (clear-none _ (write-clear s A room .1 w))
 
-writes-after : (s : List ℕ) (A : ℕ) (out : List ℕ) → Writes s A (length out) → writeAfter s A out ≡ written (spell (formAt s (pred (count s)))) out
+writes-after : (s : List ℕ) (A : ℕ) (out : List ℕ) → Writes s A (length out) → writeAfter s A out ≡ written (wholeText s) out
 unfolding writeAfter
 writes-after s A out w = rw (writes-answer s A (length out) w)
 

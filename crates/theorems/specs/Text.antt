@@ -12,7 +12,7 @@ use Rattle.meaning.specs.Run.{written}
 use Rattle.meaning.specs.Record.{recordSize, count}
 use Rattle.meaning.specs.Formula.{Form, formAtoms}
 use Rattle.meaning.specs.Tree.{formAt, formSize, postorder}
-use Rattle.meaning.specs.Text.{spell, textAtoms, mostText, Spells, read, formIn}
+use Rattle.meaning.specs.Text.{spell, wholeText, textAtoms, mostText, Spells, read, formIn}
 use Rattle.meaning.specs.Service.{Counted, checkAnswer, writeAnswer, writeAfter, readAnswer, readAfter}
 use Rattle.meaning.specs.Examples.{Texts}
 
@@ -21,13 +21,13 @@ given n = record { refusal = 0; count = n }
 
 -- The whole formula of s: wherever there is room, its text is read as the same tree, in postorder.
 pub record WrittenIsRead (s : List ℕ) (A : ℕ) : Type 0 where
-  pub output : (buffer : List ℕ) → length (spell (formAt s (pred (count s)))) ≤ length buffer
-      → writeAfter s A buffer ≡ written (spell (formAt s (pred (count s)))) buffer
-  pub same-tree : formIn (spell (formAt s (pred (count s)))) ≡ formAt s (pred (count s))
+  pub output : (buffer : List ℕ) → length (wholeText s) ≤ length buffer
+      → writeAfter s A buffer ≡ written (wholeText s) buffer
+  pub same-tree : formIn (wholeText s) ≡ formAt s (pred (count s))
   pub answer : (buffer : List ℕ) → recordSize * count s ≤ length buffer
-      → readAnswer (spell (formAt s (pred (count s)))) A (length buffer) ≡ given (count s)
+      → readAnswer (wholeText s) A (length buffer) ≡ given (count s)
   pub records : (buffer : List ℕ) → recordSize * count s ≤ length buffer
-      → readAfter (spell (formAt s (pred (count s)))) A buffer ≡ written (postorder (formAt s (pred (count s)))) buffer
+      → readAfter (wholeText s) A buffer ≡ written (postorder (formAt s (pred (count s)))) buffer
 
 -- The records of t's formula: wherever there is room, they are written as the same bytes.
 pub record ReadIsWritten (t : List ℕ) (A : ℕ) : Type 0 where
@@ -42,7 +42,7 @@ pub record Text : Type 0 where
   pub once : (F G : Form) (t : List ℕ) → Spells F t → Spells G t → F ≡ G
   -- A text has at most six bytes for each record, so that no formula's text is too long to be read.
   pub six-each : (F : Form) → formAtoms F ≤ textAtoms → length (spell F) ≤ 6 * formSize F
-  pub short : (s : List ℕ) (A : ℕ) → checkAnswer s A ≡ 0 → length (spell (formAt s (pred (count s)))) ≤ mostText
+  pub short : (s : List ℕ) (A : ℕ) → checkAnswer s A ≡ 0 → length (wholeText s) ≤ mostText
   -- Reading what was written, and writing what was read.
   pub written-read : (s : List ℕ) (A room : ℕ) → writeAnswer s A room .refusal ≡ 0 → WrittenIsRead s A
   pub read-written : (t : List ℕ) (A room : ℕ) → readAnswer t A room .refusal ≡ 0 → ReadIsWritten t A

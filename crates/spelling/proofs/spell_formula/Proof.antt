@@ -4,8 +4,9 @@ use mathlib.Core.Path.{_≡_}
 use native.Mathlib.Omega.{arith}
 use borrow.Author.Needs.{needs}
 use Rattle.meaning.specs.Record.{count}
+use Rattle.meaning.specs.Text.{wholeText}
 use Rattle.meaning.proofs.Lengths.{whole-fits}
-use Rattle.spelling.specs.Spelling.{textAt, wholeText}
+use Rattle.spelling.specs.Spelling.{textAt}
 use Rattle.spelling.proofs.spell_formula.Statement.{statement}
 use Rattle.spelling.proofs.spell_formula.Tie as tie
 

@@ -2,9 +2,8 @@
 use mathlib.Core.Path.{sym, _∙_}
 use native.Mathlib.Omega.{arith}
 use borrow.Author.Needs.{needs}
-use Rattle.meaning.specs.Refusal.{ground5}
+use Rattle.meaning.specs.Refusal.{ground5, atomGrounds}
 use Rattle.meaning.proofs.First.{Clear, none-clear, numbered-each}
-use Rattle.text.specs.Texting.{atomGrounds}
 use Rattle.text.proofs.Storing.{refused-first, refused-after, no-room, has-room}
 use Rattle.text.proofs.reading.records_refusal.Statement.{statement}
 use Rattle.text.proofs.reading.records_refusal.Tie as tie

@@ -3,9 +3,8 @@ use mathlib.Core.Path.{sym, _∙_}
 use borrow.Author.Needs.{needs}
 use Rattle.meaning.specs.Record.{core}
 use Rattle.meaning.specs.Service.{checkAnswer}
-use Rattle.meaning.specs.Refusal.{checkGrounds}
+use Rattle.meaning.specs.Refusal.{checkGrounds, backGrounds}
 use Rattle.meaning.proofs.Accepted.{clear-well-formed, check-accepts}
-use Rattle.text.specs.Texting.{backGrounds}
 use Rattle.text.proofs.Storing.{refused-first, refused-after}
 use Rattle.text.proofs.writing.formula_refusal.Statement.{statement}
 use Rattle.text.proofs.writing.formula_refusal.Tie as tie

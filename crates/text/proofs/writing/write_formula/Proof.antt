@@ -5,9 +5,8 @@ use borrow.Author.Needs.{needs}
 use Prim.Native.Nat.{_≤_}
 use lib.ListN.{length, replicate}
 use lib.Seq.{length-sets}
-use Rattle.meaning.specs.Text.{mostText}
+use Rattle.meaning.specs.Text.{wholeText, mostText}
 use Rattle.meaning.proofs.Lengths.{whole-fits}
-use Rattle.spelling.specs.Spelling.{wholeText}
 use Rattle.text.proofs.Storing.{sized-refused, sized-stored}
 use Rattle.text.proofs.writing.write_formula.Statement.{statement}
 use Rattle.text.proofs.writing.write_formula.Tie as tie

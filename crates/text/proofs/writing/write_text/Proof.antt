@@ -3,11 +3,10 @@ use mathlib.Core.Path.{sym, _∙_}
 use mathlib.Core.List.{_++_}
 use borrow.Author.Needs.{needs}
 use Rattle.meaning.specs.Record.{core}
-use Rattle.meaning.specs.Refusal.{checkGrounds}
+use Rattle.meaning.specs.Refusal.{checkGrounds, backGrounds}
 use Rattle.meaning.proofs.First.{Clear, none-clear, clear-append}
 use Rattle.meaning.proofs.Accepted.{clear-well-formed}
 use Rattle.meaning.proofs.Texting.{back-numbered}
-use Rattle.text.specs.Texting.{backGrounds}
 use Rattle.text.proofs.Storing.{write-refused, write-passed}
 use Rattle.text.proofs.writing.write_text.Statement.{statement}
 use Rattle.text.proofs.writing.write_text.Tie as tie
