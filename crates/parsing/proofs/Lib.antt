@@ -5,3 +5,4 @@ pub mod Heads
 pub mod Whole
 pub mod Parts
 pub mod Writing
+pub mod Stars

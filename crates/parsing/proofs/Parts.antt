@@ -6,6 +6,7 @@ use mathlib.Core.Bool.{Bool, true, false, cond}
 use mathlib.Core.List.{List, [], _∷_, _++_}
 use mathlib.Core.Option.{Option, none, some}
 use mathlib.Core.Logic.{_⊎_, ⊎-elim, inl, inr}
+use native.Mathlib.Nat.{add-zero}
 use native.Mathlib.Numerals.{add-one}
 use native.Mathlib.Omega.{arith}
 use lib.Dec.{eqb}
@@ -34,6 +35,13 @@ module _ (t : List ℕ) (at : ℕ) where
       let i : at < length t = omega (arith, ap length e, length-drop at t) in
       let f : b ∷ s ≡ getD t at 0 ∷ drop (at + 1) t = e ∙ rw (add-one, drop-cons t at 0 i) in
       here t (at + 1) (omega arith) ∙ cc
+
+-- What follows a sign begins as many bytes later.
+pub behind-sign : (t x u : List ℕ) (at : ℕ) → textAt t at ≡ some (x ++ u) → textAt t (at + length x) ≡ some u
+behind-sign t [] u at h = rw add-zero h
+behind-sign t (b ∷ x) u at h =
+    let same : at + suc (length x) ≡ at + 1 + length x = omega arith in
+    rw same (behind-sign t x u (at + 1) (next t at b (x ++ u) h))
 
 -- ---- no part: g reads what stands behind the first byte; one part; two parts in brackets, with a sign between them that says the kind
 module _ {C : Type 0} (W : Sorted C) where
@@ -92,6 +100,30 @@ either-signed : {C : Type 0} (c d : C) (a b s : List ℕ) (x : C) (u : List ℕ)
 either-signed c d a b s x u h =
     ⊎-elim (λ f. inl (signed c a s x u f)) (λ f. inr (signed d b s x u f)) (else-some (sign c a s) (sign d b s) (x, u) h)
 
+-- ---- signs passed over
+-- Where a sign that j reads stands at a place, it has `size` bytes.
+abbrev pub Passes : {J : Type 0} → (List ℕ → Option (J × List ℕ)) → ℕ → Type 0
+Passes {J} j size = (t : List ℕ) (at : ℕ) (v w : List ℕ) (o : J) → textAt t at ≡ some v → j v ≡ some (o, w) → textAt t (at + size) ≡ some w
+
+either-passed : {C : Type 0} (c d : C) (a b : List ℕ) → length b ≡ length a → Passes (λ v. else (sign c a v) (sign d b v)) (length a)
+either-passed c d a b same t at v w o h reads = ⊎-elim
+    (λ (_, e). behind-sign t a w at (rw e at h))
+    (λ (_, e). rw (← same) (behind-sign t b w at (rw e at h)))
+    (either-signed c d a b v o w reads)
+
+pub mode-passed : Passes readMode 3
+unfolding readMode
+mode-passed = either-passed diamond box diamondSign boxSign refl
+
+pub join-passed : Passes readJoin 1
+unfolding readJoin
+join-passed = either-passed (λ p q. Path.choice p q) (λ p q. Path.sequence p q) choiceSign sequenceSign refl
+
+pub step-passed : (t : List ℕ) (at : ℕ) (s u : List ℕ) → textAt t (at + 1) ≡ some s → after (ascii "t") s ≡ some u → textAt t (at + 2) ≡ some u
+step-passed t at s u h reads =
+    let same : at + 1 + 1 ≡ at + 2 = omega arith in
+    rw same at (behind-sign t (ascii "t") u (at + 1) (rw (after-some (ascii "t") s u reads) at h))
+
 two-parts : {A J B C : Type 0} (W : Sorted C) (R : Sorted A) (j : List ℕ → Option (J × List ℕ)) (S : Sorted B) (k : J → A → B → C) (kind : List ℕ → ℕ)
     → ((v w : List ℕ) (o : J) → j v ≡ some (o, w) → (p : A) (q : B) → (W .size (k o p q) ≡ R .size p + S .size q + 1)
     × ((n : ℕ) → W .bytes (k o p q) n ≡ R .bytes p n ++ S .bytes q (n + R .size p) ++ bytesOf (kind v) (pred (n + R .size p)) (pred (n + R .size p + S .size q))))
@@ -130,6 +162,24 @@ modeKind v = cond (eqb (getD v 2 0) (code "?")) 3 4
 
 abbrev pub joinKind : List ℕ → ℕ
 joinKind v = cond (eqb (getD v 0 0) (code "+")) 8 9
+
+constant-passed : (t : List ℕ) (at : ℕ) (s u : List ℕ) → textAt t at ≡ some s → afterHash s ≡ some u → textAt t (at + cond (eqb (getD s 0 0) (code "f")) 5 4) ≡ some u
+constant-passed t at s u h reads = ⊎-elim
+    (λ f. let e = after-some (ascii "false") s u f in rw e (behind-sign t (ascii "false") u at (rw e at h)))
+    (λ f. let e = after-some (ascii "true") s u f in rw e (behind-sign t (ascii "true") u at (rw e at h)))
+    (else-some (after (ascii "false") s) (after (ascii "true") s) u reads)
+
+-- By its second byte, which f begins.
+pub constant-stands : (t : List ℕ) (at : ℕ) (c : Bool) → eqb (getD t (at + 1) 0) (code "f") ≡ c → (s u : List ℕ) → textAt t (at + 1) ≡ some s → afterHash s ≡ some u
+    → (textAt t (at + cond c 6 5) ≡ some u) × (cond c 0 1 ≡ constantKind s) × (_≡_ {A = ℕ} 0 0)
+constant-stands t at c e s u h reads =
+    let first : getD s 0 0 ≡ getD t (at + 1) 0 = sym (byte-of t (at + 1) s h 0) ∙ rw add-zero in
+    let same : at + 1 + cond c 5 4 ≡ at + cond c 6 5 = sizes c in
+    (rw (first, e, same) at (constant-passed t (at + 1) s u h reads), rw (first, e), refl)
+  where
+    sizes : (c : Bool) → at + 1 + cond c 5 4 ≡ at + cond c 6 5
+    sizes true = omega arith
+    sizes false = omega arith
 
 module _ (b : ℕ) where
   pub constant-leaf : b ≡ code "#" → (m : ℕ) (s u : List ℕ) (x : Form) → getD s 0 0 ≡ b → readForm m s ≡ some (x, u) → Leaf forms afterHash constantKind (λ s. 0) s x u

@@ -133,6 +133,10 @@ module _ (t : List ℕ) where
     there = none-at t at f h ∙ sym (beyond t outside (omega arith));
   }
 
+  pub ends-read : {f : List ℕ → Option (List ℕ)} {at e : ℕ} → Ends t f at e → {s u : List ℕ} → textAt t at ≡ some s → f s ≡ some u → textAt t e ≡ some u
+  unfolding then
+  ends-read a h reads = sym (a .there) ∙ rw (h, reads)
+
   module _ {f g : List ℕ → Option (List ℕ)} {at e : ℕ} where
     pub ends-as : Ends t g at e → ((u : List ℕ) → f u ≡ g u) → Ends t f at e
     ends-as a h = record { onward = a .onward; low = a .low; there = then-as (textAt t at) f g h ∙ a .there }

@@ -11,13 +11,13 @@ use lib.Seq.{sets}
 use Rattle.meaning.specs.Record.{recordSize, mostRecords, bytesOf, core}
 use Rattle.meaning.specs.Formula.{Form, Path, formAtoms, pathAtoms}
 use Rattle.meaning.specs.Tree.{formSize, pathSize, formFrom, pathFrom}
-use Rattle.meaning.specs.Text.{mostText, then}
+use Rattle.meaning.specs.Text.{mostText}
 use Rattle.meaning.proofs.Postorder.{form-part, path-part}
 use Rattle.meaning.proofs.Stores.{sets-append}
-use Rattle.parsing.specs.Places.{outside, textAt, rest, Ends}
+use Rattle.parsing.specs.Places.{outside, textAt}
 use Rattle.parsing.specs.Writing.{Sorted, Readable, Wrote}
 use Rattle.parsing.proofs.Places.{place-of}
-use Rattle.parsing.proofs.Parts.{byte-of, next, Leaf, OnePart, TwoParts}
+use Rattle.parsing.proofs.Parts.{byte-of, next, Passes, Leaf, OnePart, TwoParts}
 
 pub form-long : (f : Form) (n : ℕ) → length (formFrom f n) ≡ recordSize * formSize f
 form-long f n = form-part core [] (formAtoms f) f n (le-refl (formAtoms f)) .whole
@@ -26,7 +26,7 @@ pub path-long : (p : Path) (n : ℕ) → length (pathFrom p n) ≡ recordSize * 
 path-long p n = path-part core [] (pathAtoms p) p n (le-refl (pathAtoms p)) .whole
 
 -- What is stored behind x, which is a records from number n on, makes one run with it.
-run-more : {mid new : List ℕ} (old : List ℕ) (n : ℕ) (x : List ℕ) (a m : ℕ) (y : List ℕ) → length x ≡ recordSize * a → m ≡ n + a
+pub run-more : {mid new : List ℕ} (old : List ℕ) (n : ℕ) (x : List ℕ) (a m : ℕ) (y : List ℕ) → length x ≡ recordSize * a → m ≡ n + a
     → mid ≡ sets old (recordSize * n) x → new ≡ sets mid (recordSize * m) y → new ≡ sets old (recordSize * n) (x ++ y)
 run-more old n x a m y long count put e =
     let place : recordSize * m ≡ recordSize * n + length x = omega arith in
@@ -62,19 +62,24 @@ module _ {C : Type 0} (W : Sorted C) (t : List ℕ) (at b : ℕ) (byte : b ≡ g
     pub leaf-room : {n : ℕ} → Readable W t at n → n < mostRecords
     leaf-room r = omega (arith, r .few, split (r .depth) (r .from) (r .left) (r .tree) (first-byte (r .here)) (r .reads) .sized)
 
-    pub leaf-wrote : {n e e′ n′ κ α : ℕ} {old new : List ℕ} → Ends t g (at + 1) e → ((s : List ℕ) → textAt t (at + 1) ≡ some s → (κ ≡ kind s) × (α ≡ a s))
+    pub leaf-wrote : {n e e′ n′ κ α : ℕ} {old new : List ℕ} → Readable W t at n → at ≤ e
+        → ((s u : List ℕ) → textAt t (at + 1) ≡ some s → g s ≡ some u → (textAt t e ≡ some u) × (κ ≡ kind s) × (α ≡ a s))
         → (e′ ≡ e) × (n′ ≡ n + 1) × (new ≡ sets old (recordSize * n) (bytesOf κ α 0)) → Wrote W t at n old e′ n′ new
-    unfolding then
-    leaf-wrote {n} ends chosen (to, next-number, stores) = rw (to, next-number) record {
-      onward = omega (arith, ends .onward);
-      low = ends .low;
+    leaf-wrote {n} {e} {κ = κ} {α} r onward stands (to, next-number, stores) = rw (to, next-number) record {
+      onward = onward;
+      low = omega (arith, r .short, place-of t e (r .left) (at-leaf (r .depth) (r .from) (r .left) (r .tree) (r .here) (r .reads) .0) .0);
       more = omega arith;
       whole = λ depth from left x h reads.
           let l = split depth from left x (first-byte h) reads in
-          let after = behind-byte (l .byte) (l .from) h (l .opened) in
-          let (κ, α) = chosen (l .from) after in
-          (sym (ends .there) ∙ rw after (l .reads), omega (arith, l .sized), stores ∙ rw (l .laid n, κ, α));
+          let (there, κ, α) = at-leaf depth from left x h reads in
+          (there, omega (arith, l .sized), stores ∙ rw (l .laid n, κ, α));
     }
+      where
+        at-leaf : (depth : ℕ) (from left : List ℕ) (x : C) (h : textAt t at ≡ some from) (reads : W .read depth from ≡ some (x, left))
+            → let l = split depth from left x (first-byte h) reads in (textAt t e ≡ some left) × (κ ≡ kind (l .from)) × (α ≡ a (l .from))
+        at-leaf depth from left x h reads =
+            let l = split depth from left x (first-byte h) reads in
+            stands (l .from) left (behind-byte (l .byte) (l .from) h (l .opened)) (l .reads)
 
   -- ---- one part
   module _ {A : Type 0} {R : Sorted A} {kind : ℕ} (long : (a : A) (n : ℕ) → length (R .bytes a n) ≡ recordSize * R .size a) (split : Each (OnePart W R kind)) where
@@ -105,14 +110,9 @@ module _ {C : Type 0} (W : Sorted C) (t : List ℕ) (at b : ℕ) (byte : b ≡ g
     }
 
   -- ---- two parts
-  module _ {A J B : Type 0} {R : Sorted A} {j : List ℕ → Option (J × List ℕ)} {S : Sorted B} {kind : List ℕ → ℕ}
+  module _ {A J B : Type 0} {R : Sorted A} {j : List ℕ → Option (J × List ℕ)} {S : Sorted B} {kind : List ℕ → ℕ} (size : ℕ)
       (long : (a : A) (n : ℕ) → length (R .bytes a n) ≡ recordSize * R .size a) (long′ : (b : B) (n : ℕ) → length (S .bytes b n) ≡ recordSize * S .size b)
-      (split : Each (TwoParts W R j S kind)) where
-    -- Where the second part begins.
-    second-here : {e f : ℕ} {v w : List ℕ} {o : J} → textAt t e ≡ some v → j v ≡ some (o, w) → Ends t (λ u. rest (j u)) e f → textAt t f ≡ some w
-    unfolding then rest
-    second-here h reads ends = sym (ends .there) ∙ rw (h, reads)
-
+      (passed : Passes j size) (split : Each (TwoParts W R j S kind)) where
     module _ {n : ℕ} (r : Readable W t at n) where
       two : TwoParts W R j S kind (r .from) (r .tree) (r .left)
       two = split (r .depth) (r .from) (r .left) (r .tree) (first-byte (r .here)) (r .reads)
@@ -124,17 +124,17 @@ module _ {C : Type 0} (W : Sorted C) (t : List ℕ) (at b : ℕ) (byte : b ≡ g
       two-asks-first =
           readable R t (at + 1) n (r .short) (two .depth) (two .from) (two .between) (two .first) two-here (two .reads-first) (omega (arith, r .few, two .sized))
 
-      module _ {e f m : ℕ} {old mid : List ℕ} (w : Wrote R t (at + 1) n old e m mid) (ends : Ends t (λ u. rest (j u)) e f) where
-        two-behind : (textAt t f ≡ some (two .behind)) × (m + S .size (two .second) < mostRecords)
+      module _ {e m : ℕ} {old mid : List ℕ} (w : Wrote R t (at + 1) n old e m mid) where
+        two-behind : (textAt t (e + size) ≡ some (two .behind)) × (m + S .size (two .second) < mostRecords)
         two-behind =
             let (there, count, _) = w .whole _ _ _ _ two-here (two .reads-first) in
-            (second-here there (two .reads-join) ends, omega (arith, r .few, two .sized))
+            (passed t e _ _ _ there (two .reads-join), omega (arith, r .few, two .sized))
 
-        pub two-asks-second : Readable S t f m
+        pub two-asks-second : Readable S t (e + size) m
         two-asks-second =
-            readable S t f m (r .short) (two .depth) (two .behind) (two .last) (two .second) (two-behind .0) (two .reads-second) (omega (arith, two-behind .1))
+            readable S t (e + size) m (r .short) (two .depth) (two .behind) (two .last) (two .second) (two-behind .0) (two .reads-second) (omega (arith, two-behind .1))
 
-        module _ {e′ m′ : ℕ} {mid′ : List ℕ} (v : Wrote S t f m mid e′ m′ mid′) where
+        module _ {e′ m′ : ℕ} {mid′ : List ℕ} (v : Wrote S t (e + size) m mid e′ m′ mid′) where
           pub two-room : (m′ < mostRecords) × (e′ + 1 ≤ outside)
           two-room =
               let (there, count, _) = v .whole _ _ _ _ (two-behind .0) (two .reads-second) in
@@ -144,13 +144,13 @@ module _ {C : Type 0} (W : Sorted C) (t : List ℕ) (at b : ℕ) (byte : b ≡ g
           pub two-wrote : {κ e″ m″ : ℕ} {new : List ℕ} → ((v : List ℕ) → textAt t e ≡ some v → κ ≡ kind v)
               → (e″ ≡ e′ + 1) × (m″ ≡ m′ + 1) × (new ≡ sets mid′ (recordSize * m′) (bytesOf κ (m - 1) (m′ - 1))) → Wrote W t at n old e″ m″ new
           two-wrote {κ} chosen (to, next-number, stores) = rw (to, next-number) record {
-            onward = omega (arith, w .onward, ends .onward, v .onward);
+            onward = omega (arith, w .onward, v .onward);
             low = two-room .1;
             more = omega (arith, w .more, v .more);
             whole = λ depth from left x h reads.
                 let p = split depth from left x (first-byte h) reads in
                 let (there, count, put) = w .whole _ _ _ _ (behind-byte (code "(") (p .from) h (p .opened)) (p .reads-first) in
-                let (there′, count′, put′) = v .whole _ _ _ _ (second-here there (p .reads-join) ends) (p .reads-second) in
+                let (there′, count′, put′) = v .whole _ _ _ _ (passed t e _ _ _ there (p .reads-join)) (p .reads-second) in
                 let both = run-more old n (R .bytes (p .first) n) (R .size (p .first)) m (S .bytes (p .second) m) (long (p .first) n) count put put′ in
                 let size : length (R .bytes (p .first) n ++ S .bytes (p .second) m) ≡ recordSize * (R .size (p .first) + S .size (p .second)) =
                 simp length-append (omega (arith, long (p .first) n, long′ (p .second) m)) in

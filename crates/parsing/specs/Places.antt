@@ -23,7 +23,10 @@ outside = 1_531
 abbrev pub nought : ℕ
 nought = code "0"
 
--- What follows a constant's sign that begins with #, once that byte is read.
+-- The byte # that a constant begins with, and what follows its sign once that byte is read.
+abbrev pub hash : ℕ
+hash = code "#"
+
 abbrev pub afterHash : List ℕ → Option (List ℕ)
 afterHash u = else (after (ascii "false") u) (after (ascii "true") u)
 

@@ -22,7 +22,7 @@ pub fn byte_at(text: &[u8], at: usize) -> u8
 
 // ---- signs
 // Where one byte ends, if it stands at the place.
-pub fn byte_end(text: &[u8], at: usize, b: u8) -> usize
+fn byte_end(text: &[u8], at: usize, b: u8) -> usize
     requires { ⌜ (length (now text) ≤ mostText) × (at ≤ outside) ⌝ }
     ensures { λ e. ⌜ Ends (now (text .entry)) (after (b ∷ [])) at e ⌝ }
 {
@@ -47,7 +47,7 @@ fn sign_end(text: &[u8], at: usize, sign: &[u8]) -> usize
 }
 
 // Of a constant without its first byte.
-pub fn constant_end(text: &[u8], at: usize) -> usize
+fn constant_end(text: &[u8], at: usize) -> usize
     requires { ⌜ (length (now text) ≤ mostText) × (at ≤ outside) ⌝ }
     ensures { λ e. ⌜ Ends (now (text .entry)) afterHash at e ⌝ }
 {
@@ -59,7 +59,7 @@ pub fn constant_end(text: &[u8], at: usize) -> usize
 }
 
 // Of a diamond's or a box's sign.
-pub fn mode_end(text: &[u8], at: usize) -> usize
+fn mode_end(text: &[u8], at: usize) -> usize
     requires { ⌜ (length (now text) ≤ mostText) × (at ≤ outside) ⌝ }
     ensures { λ e. ⌜ Ends (now (text .entry)) (λ u. rest (readMode u)) at e ⌝ }
 {
@@ -71,7 +71,7 @@ pub fn mode_end(text: &[u8], at: usize) -> usize
 }
 
 // Of a choice's or a sequence's sign.
-pub fn join_end(text: &[u8], at: usize) -> usize
+fn join_end(text: &[u8], at: usize) -> usize
     requires { ⌜ (length (now text) ≤ mostText) × (at ≤ outside) ⌝ }
     ensures { λ e. ⌜ Ends (now (text .entry)) (λ u. rest (readJoin u)) at e ⌝ }
 {
@@ -192,7 +192,7 @@ fn path_end(text: &[u8], at: usize) -> usize
 }
 
 // Where a run of stars ends.
-fn stars_end(text: &[u8], at: usize) -> usize
+pub fn stars_end(text: &[u8], at: usize) -> usize
     requires { ⌜ (length (now text) ≤ mostText) × (at ≤ outside) ⌝ }
     ensures { λ e. ⌜ Stars (now (text .entry)) at e ⌝ }
 {

@@ -9,12 +9,11 @@ use Rattle.parsing.proofs.write.write_path.Reads as write-path
 use Rattle.parsing.proofs.write.write_path.Kinds as write-path-kinds
 use Rattle.parsing.proofs.write.+write_form+write_path.Lts-write_path as write-path-lts
 use Rattle.parsing.proofs.ends.byte_at.Reads as byte-at-reads
-use Rattle.parsing.proofs.ends.constant_end.Reads as constant-end-reads
-use Rattle.parsing.proofs.ends.join_end.Reads as join-end-reads
-use Rattle.parsing.proofs.ends.mode_end.Reads as mode-end-reads
 use Rattle.parsing.proofs.ends.number_at.Reads as number-at-reads
-use Rattle.parsing.proofs.ends.byte_end.Reads as byte-end-reads
+use Rattle.parsing.proofs.ends.stars_end.Reads as stars-end-reads
 use Rattle.parsing.proofs.write.choose.Reads as choose-reads
+use Rattle.parsing.proofs.write.put_stars.Reads as put-stars-reads
+use Rattle.parsing.proofs.write.write_constant.Reads as write-constant-reads
 use Rattle.parsing.proofs.write.put.Reads as put-reads
 use Rattle.parsing.specs.Places.{outside}
 
@@ -40,18 +39,16 @@ abbrev pub write-form-claims : ℕ → write-form-lts.Claims
 write-form-claims t = (
   byte-at-reads.Asked,
   byte-at-reads.Learnt,
-  choose-reads.Asked,
-  choose-reads.Learnt,
-  constant-end-reads.Asked,
-  constant-end-reads.Learnt,
-  put-reads.Asked,
-  put-reads.Learnt,
+  write-constant-reads.Asked,
+  write-constant-reads.Learnt,
   number-at-reads.Asked,
   number-at-reads.Learnt,
+  put-reads.Asked,
+  put-reads.Learnt,
   write-path-below t,
   write-path.Post,
-  mode-end-reads.Asked,
-  mode-end-reads.Learnt,
+  choose-reads.Asked,
+  choose-reads.Learnt,
   write-form-below t,
   write-form.Post,
 )
@@ -60,18 +57,18 @@ abbrev pub write-path-claims : ℕ → write-path-lts.Claims
 write-path-claims t = (
   byte-at-reads.Asked,
   byte-at-reads.Learnt,
-  byte-end-reads.Asked,
-  byte-end-reads.Learnt,
   put-reads.Asked,
   put-reads.Learnt,
   write-form-below t,
   write-form.Post,
+  stars-end-reads.Asked,
+  stars-end-reads.Learnt,
   write-path-below t,
   write-path.Post,
+  put-stars-reads.Asked,
+  put-stars-reads.Learnt,
   choose-reads.Asked,
   choose-reads.Learnt,
-  join-end-reads.Asked,
-  join-end-reads.Learnt,
 )
 
 -- What is known at a place, or asked there.
