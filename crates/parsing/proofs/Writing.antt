@@ -32,6 +32,13 @@ run-more old n x a m y long count put e =
     let place : recordSize * m ≡ recordSize * n + length x = omega arith in
     e ∙ rw (place, put) (sets-append x y old (recordSize * n))
 
+-- And with what is stored behind both.
+run-two : {mid mid′ new : List ℕ} (old : List ℕ) (n : ℕ) (x : List ℕ) (a m : ℕ) (y : List ℕ) (b m′ : ℕ) (z : List ℕ) → length x ≡ recordSize * a → length y ≡ recordSize * b
+    → m ≡ n + a → m′ ≡ m + b → mid ≡ sets old (recordSize * n) x → mid′ ≡ sets mid (recordSize * m) y → new ≡ sets mid′ (recordSize * m′) z
+    → new ≡ sets old (recordSize * n) (x ++ y ++ z)
+run-two old n x a m y b m′ z long long′ count count′ put put′ =
+    run-more old n (x ++ y) (a + b) m′ z (simp length-append (omega arith)) (omega arith) (run-more old n x a m y long count put put′)
+
 pub readable : {T : Type 0} (S : Sorted T) (t : List ℕ) (at n : ℕ) → length t ≤ mostText → (depth : ℕ) (from left : List ℕ) (x : T) → textAt t at ≡ some from
     → S .read depth from ≡ some (x, left) → n + S .size x ≤ mostRecords → Readable S t at n
 readable S t at n short depth from left x here reads few = record {
@@ -141,24 +148,25 @@ module _ {C : Type 0} (W : Sorted C) (t : List ℕ) (at b : ℕ) (byte : b ≡ g
               let (within, _) = place-of t (e′ + 1) (r .left) (next t e′ (code ")") (r .left) (there ∙ ap (λ (s : List ℕ). some s) (two .closed))) in
               (omega (arith, two-behind .1), omega (arith, r .short))
 
+          two-whole : {κ : ℕ} {new : List ℕ} → ((v : List ℕ) → textAt t e ≡ some v → κ ≡ kind v) → new ≡ sets mid′ (recordSize * m′) (bytesOf κ (m - 1) (m′ - 1))
+              → (from left : List ℕ) (x : C) → textAt t at ≡ some from → TwoParts W R j S kind from x left
+              → (textAt t (e′ + 1) ≡ some left) × (m′ + 1 ≡ n + W .size x) × (new ≡ sets old (recordSize * n) (W .bytes x n))
+          two-whole {κ} chosen stores from left x h p =
+              let (there, count, put) = w .whole _ _ _ _ (behind-byte (code "(") (p .from) h (p .opened)) (p .reads-first) in
+              let (there′, count′, put′) = v .whole _ _ _ _ (passed t e _ _ _ there (p .reads-join)) (p .reads-second) in
+              let last : m - 1 ≡ pred (n + R .size (p .first)) = omega arith in
+              let last′ : m′ - 1 ≡ pred (n + R .size (p .first) + S .size (p .second)) = omega arith in (
+                next t e′ (code ")") left (there′ ∙ ap (λ (s : List ℕ). some s) (p .closed)),
+                omega (arith, p .sized),
+                run-two old n (R .bytes (p .first) n) _ m (S .bytes (p .second) m) _ m′ (bytesOf κ (m - 1) (m′ - 1)) (long (p .first) n) (long′ (p .second) m) count count′ put put′ stores
+                    ∙ rw (p .laid n, chosen (p .between) there, last, last′, count),
+              )
+
           pub two-wrote : {κ e″ m″ : ℕ} {new : List ℕ} → ((v : List ℕ) → textAt t e ≡ some v → κ ≡ kind v)
               → (e″ ≡ e′ + 1) × (m″ ≡ m′ + 1) × (new ≡ sets mid′ (recordSize * m′) (bytesOf κ (m - 1) (m′ - 1))) → Wrote W t at n old e″ m″ new
-          two-wrote {κ} chosen (to, next-number, stores) = rw (to, next-number) record {
+          two-wrote chosen (to, next-number, stores) = rw (to, next-number) record {
             onward = omega (arith, w .onward, v .onward);
             low = two-room .1;
             more = omega (arith, w .more, v .more);
-            whole = λ depth from left x h reads.
-                let p = split depth from left x (first-byte h) reads in
-                let (there, count, put) = w .whole _ _ _ _ (behind-byte (code "(") (p .from) h (p .opened)) (p .reads-first) in
-                let (there′, count′, put′) = v .whole _ _ _ _ (passed t e _ _ _ there (p .reads-join)) (p .reads-second) in
-                let both = run-more old n (R .bytes (p .first) n) (R .size (p .first)) m (S .bytes (p .second) m) (long (p .first) n) count put put′ in
-                let size : length (R .bytes (p .first) n ++ S .bytes (p .second) m) ≡ recordSize * (R .size (p .first) + S .size (p .second)) =
-                simp length-append (omega (arith, long (p .first) n, long′ (p .second) m)) in
-                let last : m - 1 ≡ pred (n + R .size (p .first)) = omega arith in
-                let last′ : m′ - 1 ≡ pred (n + R .size (p .first) + S .size (p .second)) = omega arith in (
-                  next t e′ (code ")") left (there′ ∙ ap (λ (s : List ℕ). some s) (p .closed)),
-                  omega (arith, p .sized),
-                  run-more old n (R .bytes (p .first) n ++ S .bytes (p .second) m) (R .size (p .first) + S .size (p .second)) m′ (bytesOf κ (m - 1) (m′ - 1)) size (omega arith) both stores
-                      ∙ rw (p .laid n, chosen (p .between) there, last, last′, count),
-                );
+            whole = λ depth from left x h reads. two-whole chosen stores from left x h (split depth from left x (first-byte h) reads);
           }
