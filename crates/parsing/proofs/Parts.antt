@@ -13,11 +13,11 @@ use lib.Dec.{eqb}
 use lib.ListN.{length, getD, drop, length-drop}
 use lib.Seq.{drop-cons, getD-drop}
 use borrow.Author.Tests.{eqb-true, eqb-false}
-use Rattle.meaning.specs.Record.{ahead, bytesOf, numberOf, diamond, box}
+use Rattle.meaning.specs.Record.{ahead, bytesOf, numberOf, diamond, box, constant, atom, modal, move, test, choice, sequence, star}
 use Rattle.meaning.specs.Formula.{Form, Path}
 use Rattle.meaning.specs.Tree.{formSize, formFrom, pathSize, pathFrom}
 use Rattle.meaning.specs.Text.{then, else, after, sign, closing, ascii, readAtom, readNumber, readMode, readJoin, readForm, readPath}
-use Rattle.meaning.specs.Text.{diamondSign, boxSign, choiceSign, sequenceSign}
+use Rattle.meaning.specs.Text.{falseSign, trueSign, stepSign, diamondSign, boxSign, choiceSign, sequenceSign}
 use Rattle.parsing.specs.Places.{afterHash, textAt, rest, valueIn}
 use Rattle.parsing.specs.Writing.{Sorted, forms, paths}
 use Rattle.meaning.proofs.Spelling.{then-some, else-some, after-some}
@@ -111,17 +111,17 @@ either-passed c d a b same t at v w o h reads = ⊎-elim
     (λ (_, e). rw (← same) (behind-sign t b w at (rw e at h)))
     (either-signed c d a b v o w reads)
 
-pub mode-passed : Passes readMode 3
+pub mode-passed : Passes readMode (length diamondSign)
 unfolding readMode
 mode-passed = either-passed diamond box diamondSign boxSign refl
 
-pub join-passed : Passes readJoin 1
+pub join-passed : Passes readJoin (length choiceSign)
 unfolding readJoin
 join-passed = either-passed (λ p q. Path.choice p q) (λ p q. Path.sequence p q) choiceSign sequenceSign refl
 
-pub step-passed : (t : List ℕ) (at : ℕ) (s u : List ℕ) → textAt t (at + 1) ≡ some s → after (ascii "t") s ≡ some u → textAt t (at + 2) ≡ some u
+pub step-passed : (t : List ℕ) (at : ℕ) (s u : List ℕ) → textAt t (at + 1) ≡ some s → after (ascii "t") s ≡ some u → textAt t (at + length stepSign) ≡ some u
 step-passed t at s u h reads =
-    let same : at + 1 + 1 ≡ at + 2 = omega arith in
+    let same : at + 1 + 1 ≡ at + length stepSign = omega arith in
     rw same at (behind-sign t (ascii "t") u (at + 1) (rw (after-some (ascii "t") s u reads) at h))
 
 two-parts : {A J B C : Type 0} (W : Sorted C) (R : Sorted A) (j : List ℕ → Option (J × List ℕ)) (S : Sorted B) (k : J → A → B → C) (kind : List ℕ → ℕ)
@@ -155,29 +155,29 @@ two-parts {C = C} W R j S k kind node m s x u h =
 
 -- ---- formulas
 abbrev pub constantKind : List ℕ → ℕ
-constantKind s = cond (eqb (getD s 0 0) (code "f")) 0 1
+constantKind s = cond (eqb (getD s 0 0) (code "f")) (numberOf (constant false)) (numberOf (constant true))
 
 abbrev pub modeKind : List ℕ → ℕ
-modeKind v = cond (eqb (getD v 2 0) (code "?")) 3 4
+modeKind v = cond (eqb (getD v 2 0) (code "?")) (numberOf (modal diamond)) (numberOf (modal box))
 
 abbrev pub joinKind : List ℕ → ℕ
-joinKind v = cond (eqb (getD v 0 0) (code "+")) 8 9
+joinKind v = cond (eqb (getD v 0 0) (code "+")) (numberOf choice) (numberOf sequence)
 
-constant-passed : (t : List ℕ) (at : ℕ) (s u : List ℕ) → textAt t at ≡ some s → afterHash s ≡ some u → textAt t (at + cond (eqb (getD s 0 0) (code "f")) 5 4) ≡ some u
+constant-passed : (t : List ℕ) (at : ℕ) (s u : List ℕ) → textAt t at ≡ some s → afterHash s ≡ some u → textAt t (at + cond (eqb (getD s 0 0) (code "f")) (length (ascii "false")) (length (ascii "true"))) ≡ some u
 constant-passed t at s u h reads = ⊎-elim
     (λ f. let e = after-some (ascii "false") s u f in rw e (behind-sign t (ascii "false") u at (rw e at h)))
     (λ f. let e = after-some (ascii "true") s u f in rw e (behind-sign t (ascii "true") u at (rw e at h)))
     (else-some (after (ascii "false") s) (after (ascii "true") s) u reads)
 
--- By its second byte, which f begins.
+-- What stands behind #: the first byte tells false from true.
 pub constant-stands : (t : List ℕ) (at : ℕ) (c : Bool) → eqb (getD t (at + 1) 0) (code "f") ≡ c → (s u : List ℕ) → textAt t (at + 1) ≡ some s → afterHash s ≡ some u
-    → (textAt t (at + cond c 6 5) ≡ some u) × (cond c 0 1 ≡ constantKind s) × (_≡_ {A = ℕ} 0 0)
+    → (textAt t (at + cond c (length falseSign) (length trueSign)) ≡ some u) × (cond c (numberOf (constant false)) (numberOf (constant true)) ≡ constantKind s) × (_≡_ {A = ℕ} 0 0)
 constant-stands t at c e s u h reads =
     let first : getD s 0 0 ≡ getD t (at + 1) 0 = sym (byte-of t (at + 1) s h 0) ∙ rw add-zero in
-    let same : at + 1 + cond c 5 4 ≡ at + cond c 6 5 = sizes c in
+    let same : at + 1 + cond c (length (ascii "false")) (length (ascii "true")) ≡ at + cond c (length falseSign) (length trueSign) = sizes c in
     (rw (first, e, same) at (constant-passed t (at + 1) s u h reads), rw (first, e), refl)
   where
-    sizes : (c : Bool) → at + 1 + cond c 5 4 ≡ at + cond c 6 5
+    sizes : (c : Bool) → at + 1 + cond c (length (ascii "false")) (length (ascii "true")) ≡ at + cond c (length falseSign) (length trueSign)
     sizes true = omega arith
     sizes false = omega arith
 
@@ -192,13 +192,13 @@ module _ (b : ℕ) where
       (either-signed (Form.constant false) (Form.constant true) (ascii "false") (ascii "true") s x u (rw (e, key, else-none) at h))
 
   pub atom-leaf : b ≡ code "p" → (m : ℕ) (s u : List ℕ) (x : Form) → getD s 0 0 ≡ b → readForm m s ≡ some (x, u)
-      → Leaf forms (λ u. rest (readNumber u)) (λ s. 2) (λ s. valueIn (readNumber s)) s x u
+      → Leaf forms (λ u. rest (readNumber u)) (λ s. numberOf atom) (λ s. valueIn (readNumber s)) s x u
   unfolding readForm readAtom sign then else after formSize formFrom numberOf rest valueIn
   atom-leaf key zero s u x e h = no-read h
   atom-leaf key (suc m) [] u x e h = no-read h
   atom-leaf key (suc m) (c ∷ s) u x e h =
       let (i, f, same) = kept (λ i. Form.atom i) (readNumber s) x u (rw (e, key) at h) in
-      record { byte = c; from = s; opened = refl; reads = ap rest f; sized = ap formSize same; laid = λ n. ap (λ (c : Form). formFrom c n) same ∙ ap (λ (r : Option (ℕ × List ℕ)). bytesOf 2 (valueIn r) 0) (sym f) }
+      record { byte = c; from = s; opened = refl; reads = ap rest f; sized = ap formSize same; laid = λ n. ap (λ (c : Form). formFrom c n) same ∙ ap (λ (r : Option (ℕ × List ℕ)). bytesOf (numberOf atom) (valueIn r) 0) (sym f) }
 
   pub modal-parts : (b ≡ code "#" → ⊥) → (b ≡ code "p" → ⊥) → (m : ℕ) (s u : List ℕ) (x : Form) → getD s 0 0 ≡ b → readForm m s ≡ some (x, u)
       → TwoParts forms paths readMode forms modeKind s x u
@@ -214,7 +214,7 @@ module _ (b : ℕ) where
       go false f = no-read (sym (no-form (suc m) (c ∷ s) (rw e y) (rw e z) (eqb-false c (code "(") f)) ∙ h)
 
   -- ---- paths
-  pub step-leaf : b ≡ code "&" → (m : ℕ) (s u : List ℕ) (x : Path) → getD s 0 0 ≡ b → readPath m s ≡ some (x, u) → Leaf paths (after (ascii "t")) (λ s. 5) (λ s. 0) s x u
+  pub step-leaf : b ≡ code "&" → (m : ℕ) (s u : List ℕ) (x : Path) → getD s 0 0 ≡ b → readPath m s ≡ some (x, u) → Leaf paths (after (ascii "t")) (λ s. numberOf (move ahead)) (λ s. 0) s x u
   unfolding readPath sign then else after pathSize pathFrom numberOf
   step-leaf key zero s u x e h = no-read h
   step-leaf key (suc m) [] u x e h = no-read h
@@ -222,7 +222,7 @@ module _ (b : ℕ) where
       let (same, t) = signed (Path.move ahead) (ascii "t") s x u (rw (e, key, else-none) at h) in
       record { byte = c; from = s; opened = refl; reads = rw t; sized = rw same; laid = λ n. rw same }
 
-  pub test-part : b ≡ code "?" → (m : ℕ) (s u : List ℕ) (x : Path) → getD s 0 0 ≡ b → readPath m s ≡ some (x, u) → OnePart paths forms 7 s x u
+  pub test-part : b ≡ code "?" → (m : ℕ) (s u : List ℕ) (x : Path) → getD s 0 0 ≡ b → readPath m s ≡ some (x, u) → OnePart paths forms (numberOf test) s x u
   unfolding readPath sign then else after pathSize pathFrom numberOf
   test-part key zero s u x e h = no-read h
   test-part key (suc m) [] u x e h = no-read h
@@ -230,7 +230,7 @@ module _ (b : ℕ) where
       let (f, l, same) = kept (λ f. Path.test f) (readForm m s) x u (rw (e, key) at h) in
       record { byte = c; depth = m; from = s; opened = refl; part = f; reads = l; sized = ap pathSize same; laid = λ n. ap (λ (c : Path). pathFrom c n) same }
 
-  pub star-part : b ≡ code "*" → (m : ℕ) (s u : List ℕ) (x : Path) → getD s 0 0 ≡ b → readPath m s ≡ some (x, u) → OnePart paths paths 10 s x u
+  pub star-part : b ≡ code "*" → (m : ℕ) (s u : List ℕ) (x : Path) → getD s 0 0 ≡ b → readPath m s ≡ some (x, u) → OnePart paths paths (numberOf star) s x u
   unfolding readPath sign then else after pathSize pathFrom numberOf
   star-part key zero s u x e h = no-read h
   star-part key (suc m) [] u x e h = no-read h

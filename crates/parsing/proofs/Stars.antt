@@ -48,7 +48,7 @@ module _ (t : List ℕ) {at from n : ℕ} (s : Stars t at from) where
 
   pub stars-wrote : {e m m′ : ℕ} {old mid new : List ℕ} → Wrote paths t from n old e m mid → m′ ≡ m + (from - at)
       → new ≡ sets mid (recordSize * m) (starsFrom (from - at) m) → Wrote paths t at n old e m′ new
-  unfolding starsFrom numberOf
+  unfolding starsFrom
   stars-wrote {e} {m} {old = old} {mid} w count stores = rw (count, stores) (go (from - at) at (omega (arith, s .onward)) (s .stars))
     where
       go : (k at : ℕ) → at + k ≡ from → ((i : ℕ) → at ≤ i → i < from → getD t i 0 ≡ code "*")

@@ -5,6 +5,7 @@ use mathlib.Core.Path.{refl, sym, _∙_}
 use native.Mathlib.Nat.{add-zero}
 use native.Mathlib.Omega.{arith}
 use borrow.Author.Needs.{needs}
+use Rattle.meaning.specs.Record.{numberOf}
 use Rattle.parsing.specs.Writing.{forms, paths}
 use Rattle.parsing.proofs.Numbers.{value-at}
 use Rattle.parsing.proofs.Parts.{byte-of, mode-passed, join-passed, step-passed, atom-leaf, step-leaf, test-part, modal-parts, join-parts}
@@ -38,6 +39,7 @@ module _ (t : ℕ) where
       (leaf-room forms _ _ _ (here .byte-at .ensures .0) (atom-leaf _ (arm .match .keys2)) (form-start here .pre .1), number .number-at .ensures .small, omega arith)
 
   form-returns-2 : of-form t write-form-lts.Need-returns-2
+  unfolding numberOf
   form-returns-2 c =
       let number = c .before .before in
       let read = number .number-at .ensures in
@@ -73,6 +75,7 @@ module _ (t : ℕ) where
       (room, omega (arith, room, part .write-form .ensures .more), omega (arith, room))
 
   form-returns-3 : of-form t write-form-lts.Need-returns-3
+  unfolding numberOf
   form-returns-3 c =
       let part = c .before .before .before .before .before in
       let kind = part .before .before .before in
@@ -93,6 +96,7 @@ module _ (t : ℕ) where
       (leaf-room paths _ _ _ (here .byte-at .ensures .0) (step-leaf _ (arm .match .keys1)) (path-start here .pre .1), omega arith, omega arith)
 
   path-returns : of-path t write-path-lts.Need-returns
+  unfolding numberOf
   path-returns c =
       let arm = c .before .before in
       let here = arm .before in
@@ -115,6 +119,7 @@ module _ (t : ℕ) where
       (room, omega (arith, room), omega arith)
 
   path-returns-2 : of-path t write-path-lts.Need-returns-2
+  unfolding numberOf
   path-returns-2 c =
       let part = c .before .before .before in
       let arm = part .before .before in
@@ -170,6 +175,7 @@ module _ (t : ℕ) where
       (room, omega (arith, room, part .write-path3 .ensures .more), omega (arith, room))
 
   path-returns-4 : of-path t write-path-lts.Need-returns-4
+  unfolding numberOf
   path-returns-4 c =
       let part = c .before .before .before .before .before in
       let kind = part .before .before .before in

@@ -1,12 +1,11 @@
 -- `write_constant` meets its contract.
 use Prim.Native.Char.{code}
-use Prim.Native.Nat.{_<_}
 use mathlib.Core.Path.{refl, sym, _∙_}
 use mathlib.Core.Bool.{true, false}
 use native.Mathlib.Omega.{arith}
 use borrow.Author.Needs.{needs}
 use borrow.Author.Tests.{eq-eqb, ne-eqb}
-use Rattle.meaning.specs.Record.{mostRecords}
+use Rattle.meaning.specs.Record.{numberOf}
 use Rattle.parsing.specs.Writing.{forms}
 use Rattle.parsing.proofs.Parts.{constant-leaf, constant-stands}
 use Rattle.parsing.proofs.Writing.{leaf-room, leaf-wrote}
@@ -18,6 +17,7 @@ put-requires c κs = let (r, byte) = c .before .before .before .before .pre in
     (leaf-room forms _ _ (code "#") (sym byte) (constant-leaf (code "#") refl) r, omega arith, omega arith)
 
 returns : tie.Need-returns
+unfolding numberOf
 returns c =
     let look = c .before .before .before in
     let (r, byte) = look .before .before .pre in
@@ -29,6 +29,7 @@ put-requires-2 c κs = let (r, byte) = c .before .before .before .before .pre in
     (leaf-room forms _ _ (code "#") (sym byte) (constant-leaf (code "#") refl) r, omega arith, omega arith)
 
 returns-2 : tie.Need-returns-2
+unfolding numberOf
 returns-2 c =
     let look = c .before .before .before in
     let (r, byte) = look .before .before .pre in
