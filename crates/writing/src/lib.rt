@@ -106,11 +106,10 @@ fn put_row(out: &mut [u16], at: usize, row: Row) -> usize
     requires { ⌜ at + ruleSize ≤ length (now out) ⌝ }
     ensures { λ e. ⌜ Appended (now (out .entry)) at (rowWords row) e (now (out .exit)) ⌝ }
 {
-    out[at] = row[0];
-    out[at + 1] = row[1];
-    out[at + 2] = row[2];
-    out[at + 3] = row[3];
-    out[at + 4] = row[4];
-    out[at + 5] = row[5];
+    let mut i: usize = 0;
+    while i < RULE_SIZE {
+        out[at + i] = row[i];
+        i += 1;
+    }
     at + RULE_SIZE
 }
