@@ -11,7 +11,7 @@ use lib.ListN.{length, getD, length-append}
 use borrow.Author.Tests.{leb-true}
 use lib.Dec.{leb}
 use Rattle.meaning.specs.Record.{core, Kind, constant, atom, modal, move, test, choice, sequence, star, shorthand, unknown, columnsOf, Mode}
-use Rattle.meaning.specs.Record.{diamond, box, formula, path, sortOf, mostRecords, count, kinds, kindOf, kindAt, fieldA, fieldB, numberOf}
+use Rattle.meaning.specs.Record.{diamond, box, formula, path, sortOf, mostRecords, count, kinds, kindOf, kindByte, kindAt, fieldA, fieldB, numberOf}
 use Rattle.meaning.specs.Translation.{label, context, rulesOf, rulesAt, asserted, translation, ruleNumber}
 use Rattle.meaning.specs.{Run.each, Run.written, Rule.Rule, Rule.rule, Rule.ruleSize, Rule.words, WellFormed.WellFormed}
 use Rattle.meaning.proofs.{Bounds.le-or-lt, Climbing.path-before, Climbing.continuation-record, Nodes.either-sort, Nodes.differs}
@@ -78,6 +78,12 @@ module _ {s : List ℕ} {A : ℕ} (w : WellFormed core s A) {r : ℕ} (l : r < c
       | inl e ↦ formula-same (kindAt s r) _ _ _ _ _ _ _ _ e
       | inr e ↦ rw (entry-of e .0, entry-of e .1, mode-again)
     ])
+
+    -- So the rows are the record's, by what was read of it.
+    pub rows-found : {k a b m u x y z c : ℕ} {rows : List (List ℕ)} → k ≡ kindByte s r → a ≡ fieldA s r → b ≡ fieldB s r
+        → m ≡ getD contexts r 0 / 256 → u ≡ getD contexts r 0 % 256 → x ≡ label A r → y ≡ label A a → z ≡ label A b → c ≡ label A u
+        → rows ≡ rowsOf (rulesOf (kindOf k) (modeOf m) x y z c a) → rows ≡ rowsOf (rulesAt s A r)
+    rows-found k a b m u x y z c e = rw (x, y, z, c, k, a, b, m, u, record-rules) at e
 
     -- They are as many as the code counts.
     pub rules-number : {n : ℕ} → n ≡ ruleNumber (kindAt s r) (modeOf (getD contexts r 0 / 256))

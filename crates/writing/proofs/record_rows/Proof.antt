@@ -3,7 +3,7 @@ use Prim.Native.Nat.{_<_, _≤_}
 use native.Mathlib.Omega.{arith}
 use borrow.Author.Needs.{needs}
 use Rattle.paths.proofs.Moving.{core-kind, first-small, second-small}
-use Rattle.writing.proofs.{Rowing.record-rules, record_rows.Statement.statement}
+use Rattle.writing.proofs.{Rowing.rows-found, record_rows.Statement.statement}
 use Rattle.writing.proofs.record_rows.Tie as tie
 
 -- ---- what is known of the record
@@ -40,6 +40,6 @@ record-rows-spec = tie.close (tie.spec
     (λ c. let mode = c .before in let four = mode .before in let three = four .before .before in
     let two = three .before in let b = two .before .before .before in
     let (w, e, l) = start b .pre in
-    let rows = rw (mode .mode .ensures, four .label4 .ensures, four .before .continuation .ensures) at (c .rows-of .ensures) in
-    let rows = rw (three .label3 .ensures, two .label2 .ensures, two .before .label .ensures) at rows in
-    rw (b .field-b .ensures, b .before .field-a .ensures, b .before .before .kind-at .ensures, record-rules w l e) at rows))
+    rows-found w l e (b .before .before .kind-at .ensures) (b .before .field-a .ensures) (b .field-b .ensures)
+    (mode .mode .ensures) (four .before .continuation .ensures)
+    (two .before .label .ensures) (two .label2 .ensures) (three .label3 .ensures) (four .label4 .ensures) (c .rows-of .ensures)))
