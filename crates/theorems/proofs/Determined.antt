@@ -8,14 +8,14 @@ use Prim.Native.Nat.{ℕ, zero, suc, _+_, _≤_, _<_, zero-le}
 use mathlib.Core.Path.{_≡_, refl, sym, ap, _∙_}
 use mathlib.Core.Bool.{true≢false}
 use mathlib.Core.List.{List}
-use mathlib.Core.Logic.{inl, inr, _↔_}
+use mathlib.Core.Logic.{_⊎_, inl, inr, _↔_}
 use native.Mathlib.Omega.{arith}
 use Rattle.meaning.specs.Record.{Kind, columnsOf, core, count, kindAt, fieldA, fieldB, Sort, formula, path, sortOf, Mode, child, useA, useB, parent}
 use Rattle.meaning.specs.WellFormed.{WellFormed}
 use Rattle.meaning.specs.Value.{Row}
 use Rattle.meaning.proofs.Cases.{by-kind}
 use Rattle.meaning.proofs.Nodes.{either-sort, differs}
-use Rattle.meaning.proofs.Parents.{used-in, has-parent, child-earlier}
+use Rattle.meaning.proofs.Parents.{InFirst, InSecond, used-in, has-parent, child-earlier}
 use Rattle.meaning.proofs.Climbing.{path-before}
 use Rattle.meaning.proofs.Modality.{modal-bound, modal-congruence}
 use Rattle.meaning.proofs.Onward.{values-bound}
@@ -76,6 +76,18 @@ module _ (s : List ℕ) (L : ℕ) (cell : ℕ → ℕ → ℕ) (q : ℕ) (l : q 
 
 module _ {s : List ℕ} {A : ℕ} (w : WellFormed core s A) where
   module _ (L : ℕ) (cell : ℕ → ℕ → ℕ) (shape : (r : ℕ) → r < count s → Shape s L cell (kindAt s r) r) where
+    -- If record q goes on, so does a path that it has in one of its fields.
+    part-onto : (r q : ℕ) → q < count s → (sortAt s q ≡ path → Onto s q (contAt s q)) → sortAt s r ≡ path
+        → InFirst s r q ⊎ InSecond s r q → Onto s r (contAt s r)
+    part-onto r q b up p (inl (σ, e, f)) =
+        let fits = rw e at (w .first q b) in
+        let z : σ ≡ path = sym (fits .1) ∙ ap (sortAt s) f ∙ p in
+        rw f at (first-onto s L cell q b up (kindAt s q) refl (shape q b) (e ∙ ap child z))
+    part-onto r q b up p (inr (σ, e, f)) =
+        let fits = rw e at (w .second q b) in
+        let z : σ ≡ path = sym (fits .1) ∙ ap (sortAt s) f ∙ p in
+        rw f at (second-onto s L cell q b up (kindAt s q) refl (shape q b) (e ∙ ap child z))
+
     -- By climbing, t times at most.
     onto-in : (t r : ℕ) → r < count s → count s ≤ t + r → sortAt s r ≡ path → Onto s r (contAt s r)
     onto-in zero r l h p = absurd (omega arith)
@@ -83,17 +95,7 @@ module _ {s : List ℕ} {A : ℕ} (w : WellFormed core s A) where
         let q = parent s r in
         let (b, u) = has-parent w r (path-before w r l p) in
         let a = child-earlier w r q b u in
-        let up = onto-in t q b (omega arith) in
-        elim (used-in s r q u) [
-          | inl (σ, e, f) ↦
-              let fits = rw e at (w .first q b) in
-              let z : σ ≡ path = sym (fits .1) ∙ ap (sortAt s) f ∙ p in
-              rw f at (first-onto s L cell q b up (kindAt s q) refl (shape q b) cc)
-          | inr (σ, e, f) ↦
-              let fits = rw e at (w .second q b) in
-              let z : σ ≡ path = sym (fits .1) ∙ ap (sortAt s) f ∙ p in
-              rw f at (second-onto s L cell q b up (kindAt s q) refl (shape q b) cc)
-        ]
+        part-onto r q b (onto-in t q b (omega arith)) p (used-in s r q u)
 
     -- So every path goes on.
     pub onto : (r : ℕ) → r < count s → sortAt s r ≡ path → Onto s r (contAt s r)
