@@ -3,7 +3,7 @@
 -- other. So all rules of the words hold exactly if each rule of the list is kept, at each instant. A rule says that one value is at most
 -- another, and two such make an equation. The rules of a move compare an instant with the one beside it, and its third rule is for the
 -- instant that has none beside it.
-use Prim.Native.Nat.{ℕ, zero, suc, _+_, _*_, _<_, pred, _≤_, min, max}
+use Prim.Native.Nat.{ℕ, zero, suc, _+_, _*_, _<_, pred, _≤_, _-_, min, max}
 use mathlib.Core.Path.{_≡_, refl, sym, _∙_}
 use mathlib.Core.Bool.{true}
 use mathlib.Core.List.{List, [], _∷_, _++_}
@@ -14,6 +14,7 @@ use lib.ListN.{length}
 use Rattle.meaning.specs.Run.{each}
 use Rattle.meaning.specs.Rule.{Rule, words, ruleAt, placed, holds, literal, bodyValue, headValue}
 use Rattle.meaning.specs.Judge.{ruleCount, AllHold}
+use Rattle.meaning.specs.Three.{imp}
 use Rattle.meaning.specs.Record.{Mode, diamond, box, Way, ahead, back}
 use Rattle.meaning.specs.Value.{Row, moveSquare, modalRow}
 use Rattle.meaning.specs.Translation.{sameRules, edgeRule, joinRules, testRules, moveRules}
@@ -89,6 +90,11 @@ module _ (L : ℕ) (cell : ℕ → ℕ → ℕ) where
 max-zero : (u : ℕ) → max u 0 ≡ u
 max-zero u = omega arith
 
+-- The rules of a test under a box leave x the implication of c by a.
+test-numbers : (x a c : ℕ) → x ≤ 2 → a ≤ 2 → c ≤ 2
+    → ((min x a ≤ c) × ((min (2 - 2 * a) 2 ≤ x) × ((c ≤ x) × ((2 ≤ max (max x a) (2 - 2 * c)) × Unit {0})))) ↔ (x ≡ imp a c)
+test-numbers x a c x2 a2 c2 = elim (by-comparison a c) [ inl p ↦ omega arith | inr p ↦ omega arith ]
+
 module _ (L : ℕ) (cell : ℕ → ℕ → ℕ) (low : (k i : ℕ) → cell k i ≤ 2) where
   -- The smaller of a literal's value and 2 is that value.
   min-two : (w k : ℕ) → min (literal cell w k) 2 ≡ literal cell w k
@@ -143,11 +149,8 @@ module _ (L : ℕ) (cell : ℕ → ℕ → ℕ) (low : (k i : ℕ) → cell k i 
     unfolding bodyValue headValue testRules gate
     test-says diamond x a c al cl = simp (kept-always, unused) (omega arith)
     test-says box x a c al cl =
-        let x2 = literal-low cell low x k in
-        let a2 = literal-low cell low a k in
-        let c2 = literal-low cell low c k in
         simp (kept-always, unused, literal-negated, negation-value)
-        (elim (by-comparison (at a) (at c)) [ inl p ↦ omega arith | inr p ↦ omega arith ])
+        (test-numbers (at x) (at a) (at c) (literal-low cell low x k) (literal-low cell low a k) (literal-low cell low c k))
 
     -- Two rules and a third.
     beside-placed : (p u v : ℕ) (m : Mode) (q x : ℕ) → AllKept L cell (sameRules p u v ++ (edgeRule m q x ∷ [])) k
