@@ -5,7 +5,7 @@ ghost use Prim.Native.Nat.{_*_, _+_, _<_, _≤_};
 ghost use lib.ListN.{length};
 ghost use Rattle.meaning.specs.Run.{each, written};
 ghost use Rattle.meaning.specs.Rule.{ruleSize};
-ghost use Rattle.writing.specs.Appended.{Appended};
+ghost use Rattle.copying.specs.Appended.{Appended};
 ghost use Rattle.listing.specs.Printed.{spelled, line, lineEnd, printed, mostSpelled, mostLine, mostText};
 ghost use Rattle.listing.specs.Printed.{gap as Printed·gap};
 use records::layout;

@@ -1,5 +1,4 @@
--- Putting signs and texts one after another. What is put after a text makes one text with it; a sign's lowest byte is its first character,
--- and the rest of the number has the others.
+-- Putting a sign byte by byte: its lowest byte is its first character, and the rest of the number has the others.
 use Prim.Native.Nat.{ℕ, zero, suc, _+_, _*_, _/_, _%_, _<_, _≤_}
 use mathlib.Core.Path.{_≡_, refl, ap, _∙_}
 use mathlib.Core.Bool.{Bool, true, _&&_}
@@ -13,14 +12,9 @@ use lib.Dec.{ltb}
 use Rattle.meaning.proofs.Bounds.{le-or-lt}
 use Rattle.meaning.proofs.Fails.{and-holds}
 use Rattle.meaning.proofs.Stores.{sets-append}
-use Rattle.spelling.specs.Spelling.{byte, bytesIn, signBytes, Put}
-
--- ---- one after another
-pub put-more : {old t mid u new : List ℕ} {at e f : ℕ} → Put old at t e mid → Put mid e u f new → Put old at (t ++ u) f new
-put-more {old} {t} {u = u} {at = at} p q = record {
-  place = rw length-append (omega (arith, p .place, q .place));
-  stored = q .stored ∙ rw (p .place, p .stored) (sets-append t u old at);
-}
+use Rattle.copying.specs.Appended.{Appended}
+use Rattle.copying.proofs.Appending.{append-one, append-more}
+use Rattle.spelling.specs.Spelling.{byte, bytesIn, signBytes}
 
 -- ---- the bytes of a sign
 -- It does not matter how many bytes may come, if there may be enough.
@@ -71,12 +65,12 @@ sign-digits (b ∷ t) {n} h e =
 -- ---- a sign's bytes on the way: some are put, and the rest of the number has the others
 pub record Putting (old : List ℕ) (at sign rest n : ℕ) (out : List ℕ) : Type 0 where
   pub done : List ℕ
-  pub put : Put old at done n out
+  pub put : Appended old at done n out
   pub whole : done ++ signBytes rest ≡ signBytes sign
 
 module _ {old : List ℕ} {at sign : ℕ} where
   pub putting-none : Putting old at sign sign at old
-  putting-none = record { done = []; put = record { place = omega arith; stored = refl }; whole = refl }
+  putting-none = record { done = []; put = record { place = omega arith; whole = refl }; whole = refl }
 
   module _ {rest n : ℕ} {out : List ℕ} (p : Putting old at sign rest n out) where
     pub putting-room : 1 < rest → n < at + length (signBytes sign)
@@ -87,9 +81,9 @@ module _ {old : List ℕ} {at sign : ℕ} where
     pub putting-more : 1 < rest → Putting old at sign (rest / byte) (n + 1) (set out n (rest % byte))
     putting-more h = record {
       done = p .done ++ (rest % byte ∷ []);
-      put = put-more (p .put) (record { place = refl; stored = refl });
+      put = append-more (p .put) (append-one out n (rest % byte));
       whole = rw append-assoc (rw (sign-more rest h) at (p .whole));
     }
 
-    pub putting-done : rest ≤ 1 → Put old at (signBytes sign) n out
+    pub putting-done : rest ≤ 1 → Appended old at (signBytes sign) n out
     putting-done h = rw (← p .whole, sign-done rest h, append-nil) (p .put)

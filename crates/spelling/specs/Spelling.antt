@@ -4,14 +4,12 @@
 --   textAt s r            the text of record r's tree
 --   Spellable s           s is the records of a formula in core kinds
 --   Spelling s r at       r is one of them, and its text fits from the place `at` on
---   Put old at t e new    `new` is `old` with t stored from `at` on, and e is the place after t
 use Prim.Native.Nat.{ℕ, zero, suc, _+_, _/_, _%_, _<_, _≤_}
 use mathlib.Core.Path.{_≡_}
 use mathlib.Core.Bool.{true, false, cond}
 use mathlib.Core.List.{List, [], _∷_, _++_}
 use lib.Dec.{leb}
 use lib.ListN.{length}
-use lib.Seq.{sets}
 use Rattle.meaning.specs.Record.{core, count, kindAt, Sort, sortOf}
 use Rattle.meaning.specs.Record.{Kind, constant, atom, modal, move, test, choice, sequence, star, shorthand, unknown}
 use Rattle.meaning.specs.Tree.{Tree, asForm, asPath, treeAt}
@@ -60,8 +58,3 @@ pub record Spelling (s : List ℕ) (r at : ℕ) : Type 0 where
   pub whole : Spellable s
   pub index : r < count s
   pub room : at + length (textAt s r) ≤ mostText
-
--- ---- the buffer
-pub record Put (old : List ℕ) (at : ℕ) (t : List ℕ) (e : ℕ) (new : List ℕ) : Type 0 where
-  pub place : e ≡ at + length t
-  pub stored : new ≡ sets old at t

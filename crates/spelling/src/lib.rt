@@ -5,7 +5,8 @@ ghost use mathlib.Core.Path.{_≡_};
 ghost use lib.ListN.{length};
 ghost use lib.Seq.{sets};
 ghost use Rattle.meaning.specs.Text.{wholeText};
-ghost use Rattle.spelling.specs.Spelling.{textAt, Spellable, Spelling, Put};
+ghost use Rattle.copying.specs.Appended.{Appended};
+ghost use Rattle.spelling.specs.Spelling.{textAt, Spellable, Spelling};
 use records::layout;
 
 // No formula's text has more bytes.
@@ -24,7 +25,7 @@ pub fn spell_formula(records: &[u8], buffer: &mut [u8; MOST_TEXT]) -> usize
 // stand in brackets with the sign in between.
 fn spell_record(records: &[u8], r: usize, buffer: &mut [u8; MOST_TEXT], at: usize) -> usize
     requires { ⌜ Spelling (now records) r at ⌝ }
-    ensures { λ e. ⌜ Put (now (buffer .entry)) at (textAt (now (records .entry)) r) e (now (buffer .exit)) ⌝ }
+    ensures { λ e. ⌜ Appended (now (buffer .entry)) at (textAt (now (records .entry)) r) e (now (buffer .exit)) ⌝ }
 {
     let kind = layout::kind_at(records, r);
     let a = layout::field_a(records, r);

@@ -4,7 +4,8 @@ ghost use Prim.Native.Nat.{_+_, _<_, _≤_};
 ghost use lib.ListN.{length};
 ghost use Rattle.meaning.specs.Record.{atom, kindOf};
 ghost use Rattle.meaning.specs.Text.{textAtoms, mostText};
-ghost use Rattle.spelling.specs.Spelling.{signBytes, ownSign, Put};
+ghost use Rattle.copying.specs.Appended.{Appended};
+ghost use Rattle.spelling.specs.Spelling.{signBytes, ownSign};
 use records::kind;
 
 const BYTE: u64 = 256;
@@ -57,7 +58,7 @@ fn atom_sign(number: u64) -> u64
 // Puts a sign's characters one after another, and gives the place after the last.
 pub fn put_sign(buffer: &mut [u8; crate::MOST_TEXT], at: usize, sign: u64) -> usize
     requires { ⌜ at + length (signBytes sign) ≤ mostText ⌝ }
-    ensures { λ e. ⌜ Put (now (buffer .entry)) at (signBytes sign) e (now (buffer .exit)) ⌝ }
+    ensures { λ e. ⌜ Appended (now (buffer .entry)) at (signBytes sign) e (now (buffer .exit)) ⌝ }
 {
     let mut rest = sign;
     let mut n = at;

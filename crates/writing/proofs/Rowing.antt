@@ -20,8 +20,9 @@ use Rattle.records.specs.Code.{modeOf}
 use Rattle.records.proofs.Ranges.{stretch}
 use Rattle.contexts.specs.Contexts.{packed, entryBy, contextsOf}
 use Rattle.rulings.specs.Rows.{rowsOf}
-use Rattle.writing.specs.Appended.{Appended, wordsIn}
-use Rattle.writing.proofs.Appending.{append-length, append-more, append-written}
+use Rattle.writing.specs.Rows.{wordsIn}
+use Rattle.copying.specs.Appended.{Appended}
+use Rattle.copying.proofs.Appending.{append-length, append-more, append-written}
 
 -- ---- by the kind
 formula-same : (K : Kind) (m n : Mode) (x a b c d i : ℕ) → sortOf K ≡ formula

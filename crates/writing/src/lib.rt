@@ -9,7 +9,8 @@ ghost use Rattle.meaning.specs.Translation.{context, rulesAt, translation, rule
 ghost use Rattle.paths.specs.Asking.{Formed, Ready};
 ghost use Rattle.contexts.specs.Contexts.{contextsOf};
 ghost use Rattle.rulings.specs.Rows.{rowsOf};
-ghost use Rattle.writing.specs.Appended.{Appended, rowWords, wordsIn};
+ghost use Rattle.copying.specs.Appended.{Appended};
+ghost use Rattle.writing.specs.Rows.{rowWords, wordsIn};
 use contexts::Contexts;
 use records::layout;
 use rules::RULE_SIZE;

@@ -1,7 +1,7 @@
 -- `put_last` meets its contract: the number is put after the word.
 use native.Mathlib.Omega.{arith}
 use borrow.Author.Needs.{needs}
-use Rattle.writing.proofs.Appending.{append-more}
+use Rattle.copying.proofs.Appending.{append-more}
 use Rattle.listing.proofs.put_last.Statement.{statement}
 use Rattle.listing.proofs.put_last.Tie as tie
 

@@ -5,7 +5,7 @@ use native.Mathlib.Omega.{arith}
 use borrow.Author.Needs.{needs}
 use Rattle.listing.specs.Printed.{spelled}
 use Rattle.listing.proofs.{Spelling.decimal-digits, Spelling.few-digits, put_number.Statement.statement}
-use Rattle.writing.proofs.Appending.{append-one, append-more}
+use Rattle.copying.proofs.Appending.{append-one, append-more}
 use Rattle.listing.proofs.put_number.Tie as tie
 
 few : (c : tie.After-decimal) → c .decimal .result ≤ 5

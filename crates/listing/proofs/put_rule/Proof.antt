@@ -5,8 +5,8 @@ use native.Mathlib.Omega.{arith}
 use borrow.Author.Needs.{needs}
 use Rattle.meaning.specs.{Run.each, Rule.ruleSize}
 use Rattle.listing.specs.Printed.{word, line, mostSpelled}
-use Rattle.writing.specs.Appended.{Appended}
-use Rattle.writing.proofs.Appending.{append-length, append-none, append-next}
+use Rattle.copying.specs.Appended.{Appended}
+use Rattle.copying.proofs.Appending.{append-length, append-none, append-next}
 use Rattle.listing.proofs.put_rule.Statement.{statement}
 use Rattle.listing.proofs.put_rule.Tie as tie
 

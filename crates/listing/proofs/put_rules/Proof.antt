@@ -5,8 +5,8 @@ use native.Mathlib.Omega.{arith}
 use borrow.Author.Needs.{needs}
 use Rattle.meaning.specs.Run.{each}
 use Rattle.listing.specs.Printed.{line, mostLine}
-use Rattle.writing.specs.Appended.{Appended}
-use Rattle.writing.proofs.Appending.{append-length, append-none, append-next}
+use Rattle.copying.specs.Appended.{Appended}
+use Rattle.copying.proofs.Appending.{append-length, append-none, append-next}
 use Rattle.listing.proofs.put_rules.Statement.{statement}
 use Rattle.listing.proofs.put_rules.Tie as tie
 

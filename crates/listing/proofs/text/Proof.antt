@@ -3,7 +3,7 @@ use Prim.Native.Nat.{_≤_}
 use native.Mathlib.Omega.{arith}
 use borrow.Author.Needs.{needs}
 use Rattle.meaning.specs.Refusal.{mostRules}
-use Rattle.writing.proofs.Appending.{append-length, append-more, append-written}
+use Rattle.copying.proofs.Appending.{append-length, append-more, append-written}
 use Rattle.listing.proofs.{Answered.printed-refused, Answered.few-rules, Answered.printed-rules, text.Statement.statement}
 use Rattle.listing.proofs.text.Tie as tie
 

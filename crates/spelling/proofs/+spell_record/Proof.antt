@@ -12,7 +12,7 @@ use Rattle.meaning.specs.Record.{kindOf, useA}
 use Rattle.meaning.specs.Text.{mostText}
 use Rattle.shapes.specs.Uses.{useCode}
 use Rattle.spelling.specs.Spelling.{signBytes, textAt, Spelling}
-use Rattle.spelling.proofs.Putting.{put-more}
+use Rattle.copying.proofs.Appending.{append-more}
 use Rattle.spelling.proofs.Parts.{atom-low, Read, One, Two, no-part, one-part, two-parts}
 use Rattle.spelling.proofs.spell_record.Reads as spell-record
 use Rattle.spelling.proofs.spell_record.Kinds as spell-record-kinds
@@ -109,7 +109,7 @@ module _ (t : ℕ) where
   returns-2 : of lts.Need-returns-2
   returns-2 c =
       let sign = c .before .before in
-      rw (one (sign .before .before) .text) (put-more (sign .put-sign2 .ensures) (c .spell-record .ensures))
+      rw (one (sign .before .before) .text) (append-more (sign .put-sign2 .ensures) (c .spell-record .ensures))
 
   returns-3 : of lts.Need-returns-3
   returns-3 c =
@@ -118,9 +118,9 @@ module _ (t : ℕ) where
       let first = sign .before .before in
       let bracket = first .before .before in
       rw (two (bracket .before .before) .text)
-      (put-more (bracket .put-sign3 .ensures)
-      (put-more (first .spell-record2 .ensures)
-      (put-more (sign .put-sign4 .ensures) (put-more (second .spell-record3 .ensures) (c .put-sign5 .ensures)))))
+      (append-more (bracket .put-sign3 .ensures)
+      (append-more (first .spell-record2 .ensures)
+      (append-more (sign .put-sign4 .ensures) (append-more (second .spell-record3 .ensures) (c .put-sign5 .ensures)))))
 
 pub +spell-record-spec : {M : Type 1} → statement M
 +spell-record-spec = close μ-spell-record λ t. lts.spec (claims t) (spell-record-at t) spell-record.Post

@@ -32,7 +32,7 @@ spell-record-requires c κs =
 returns : tie.Need-returns
 returns c =
     let put = rw (text (c .before .before)) at (c .spell-record .ensures) in
-    (omega (arith, put .place), put .stored)
+    (omega (arith, put .place), put .whole)
 
 pub spell-formula-spec : {M : Type 1} → statement M
 spell-formula-spec =

@@ -6,8 +6,8 @@ use native.Mathlib.Omega.{arith}
 use lib.ListN.{getD, set}
 use borrow.Author.Needs.{needs}
 use Rattle.meaning.specs.{Run.each, Rule.ruleSize}
-use Rattle.writing.specs.Appended.{Appended}
-use Rattle.writing.proofs.{Appending.append-one, Appending.append-length, Appending.append-next}
+use Rattle.copying.specs.Appended.{Appended}
+use Rattle.copying.proofs.Appending.{append-one, append-length, append-next}
 use Rattle.writing.proofs.put_row.Statement.{statement}
 use Rattle.writing.proofs.put_row.Tie as tie
 

@@ -3,7 +3,8 @@ use mathlib.Core.Path.{_≡_}
 use native.Mathlib.Omega.{arith}
 use borrow.Author.Needs.{needs}
 use Rattle.meaning.specs.Run.{each}
-use Rattle.writing.proofs.{Appending.append-length, Appending.append-more, put_rows.Statement.statement}
+use Rattle.copying.proofs.Appending.{append-length, append-more}
+use Rattle.writing.proofs.put_rows.Statement.{statement}
 use Rattle.writing.proofs.put_rows.Tie as tie
 
 -- ---- the places of the rows before

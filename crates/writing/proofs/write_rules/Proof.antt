@@ -5,9 +5,9 @@ use borrow.Author.Needs.{needs}
 use Rattle.meaning.specs.{Run.each, Record.count, Rule.words}
 use Rattle.meaning.proofs.RuleCount.{record-few}
 use Rattle.paths.proofs.Moving.{core-kind}
-use Rattle.writing.specs.Appended.{Appended}
+use Rattle.copying.specs.Appended.{Appended}
 use Rattle.writing.proofs.Rowing.{wordsAt, some-rules, record-counted, rules-appended, room-next, room-last, all-written}
-use Rattle.writing.proofs.Appending.{append-none, append-length, append-more, append-next}
+use Rattle.copying.proofs.Appending.{append-none, append-length, append-more, append-next}
 use Rattle.writing.proofs.write_rules.Statement.{statement}
 use Rattle.writing.proofs.write_rules.Tie as tie
 

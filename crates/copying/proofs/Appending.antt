@@ -1,5 +1,5 @@
 -- Lists stored one after another. What is stored after a list follows it, and the two are one list that was stored. So
--- follow the words of rows, and so the rules of records.
+-- follow the words of rows, the rules of records, the signs of a text.
 use Prim.Native.Nat.{ℕ, _+_, _≤_}
 use mathlib.Core.Path.{_≡_, refl, ap, _∙_}
 use mathlib.Core.List.{List, [], _∷_, _++_}
@@ -8,7 +8,7 @@ use lib.ListN.{length, set, length-append}
 use lib.Seq.{length-sets}
 use Rattle.meaning.specs.Run.{each, written}
 use Rattle.meaning.proofs.{Runs.each-more, Stores.sets-append, Stores.sets-written}
-use Rattle.writing.specs.Appended.{Appended}
+use Rattle.copying.specs.Appended.{Appended}
 
 -- One member.
 pub append-one : (old : List ℕ) (at b : ℕ) → Appended old at (b ∷ []) (at + 1) (set old at b)
