@@ -1,7 +1,7 @@
 -- Whether a path may stand still, by its kind and its parts. A record that is no path counts as a step, which never does.
 use Prim.Native.Nat.{ℕ, _<_, _≤_}
-use mathlib.Core.Path.{_≡_, refl, sym, ap}
-use mathlib.Core.Bool.{Bool, false}
+use mathlib.Core.Path.{_≡_, refl, sym, ap, _∙_}
+use mathlib.Core.Bool.{Bool, true, false, _&&_, _||_}
 use mathlib.Core.Logic.{_⊎_, inl, inr, _≢_}
 use mathlib.Core.List.{List}
 use native.Mathlib.Omega.{arith}
@@ -19,8 +19,20 @@ module _ {s : List ℕ} {p : ℕ} (w : Formed s × (p < count s)) {n : ℕ} (num
   abbrev standing : Kind → Bool
   standing K = mayStand (asPath (nodeOf K (fieldA s p) (fieldB s p) (treeAt s)))
 
-  pub by-kind : stands p ≡ standing (kindOf n)
+  by-kind : stands p ≡ standing (kindOf n)
   by-kind = ap mayStand (path-node (w .0 .formed) (w .1) (ap kindOf (sym number)))
+
+  pub alone-stands : (n ≡ 7) ⊎ (n ≡ 10) → true ≡ stands p
+  unfolding kindOf kinds nodeOf asPath mayStand
+  alone-stands h = sym (by-kind ∙ elim h [ inl e ↦ rw e | inr e ↦ rw e ])
+
+  pub choice-stands : n ≡ 8 → stands p ≡ (stands (fieldA s p) || stands (fieldB s p))
+  unfolding kindOf kinds nodeOf asPath mayStand
+  choice-stands e = by-kind ∙ rw e
+
+  pub sequence-stands : n ≡ 9 → stands p ≡ (stands (fieldA s p) && stands (fieldB s p))
+  unfolding kindOf kinds nodeOf asPath mayStand
+  sequence-stands e = by-kind ∙ rw e
 
   pub other-stands : ((n ≡ 7) ⊎ (n ≡ 10) → ⊥) → n ≢ 8 → n ≢ 9 → false ≡ stands p
   unfolding kinds nodeOf asPath mayStand
