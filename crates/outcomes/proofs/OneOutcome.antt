@@ -138,6 +138,7 @@ one-outcome = record {
   put-constant = λ κs a o u p q. λ i. (o .0, (put-one p q i, (tt, (tt, (tt, tt)))));
   put-atom = λ κs a o u p q. λ i. (o .0, (put-one p q i, (tt, (tt, (tt, (tt, (tt, tt)))))));
   put-modal = λ κs a o u p q. λ i. (o .0, (tt, (tt, (put-one p q i, (tt, (tt, (tt, tt)))))));
+  fill = λ κs a o u p q. λ i. (same (p .0) (q .0) i, (tt, (tt, (tt, (tt, (same (p .1) (q .1) i, tt))))));
   is-formula = λ κs a o u. alone;
   size-of = λ κs a o u. alone;
   write-records = λ κs a o u p q. λ i. (o .0, (tt, (same p q i, tt)));

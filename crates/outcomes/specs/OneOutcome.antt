@@ -32,6 +32,7 @@ use Rattle.squares.proofs as squares
 use Rattle.joining.proofs as joining
 use Rattle.closing.proofs as closing
 use Rattle.tables.proofs as tables
+use Rattle.valuing.proofs as valuing
 use Rattle.counting.proofs as counting
 use Rattle.parsing.proofs as parsing
 use Rattle.spelling.proofs as spelling
@@ -116,6 +117,8 @@ pub record OneOutcome : Type 0 where
   pub put-constant : OneFits tables.put_constant.Kinds.ps tables.put_constant.Kinds.r tables.put_constant.Reads.Post
   pub put-atom : OneFits tables.put_atom.Kinds.ps tables.put_atom.Kinds.r tables.put_atom.Reads.Post
   pub put-modal : OneFits tables.put_modal.Kinds.ps tables.put_modal.Kinds.r tables.put_modal.Reads.Post
+  -- valuing
+  pub fill : OneFits valuing.fill.Kinds.ps valuing.fill.Kinds.r valuing.fill.Reads.Post
   -- counting, parsing, spelling
   pub is-formula : OneFits parsing.is_formula.Kinds.ps parsing.is_formula.Kinds.r parsing.is_formula.Reads.Post
   pub size-of : OneFits counting.size_of.Kinds.ps counting.size_of.Kinds.r counting.size_of.Reads.Post

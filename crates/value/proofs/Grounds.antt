@@ -12,7 +12,7 @@ use Rattle.meaning.proofs.First.{Numbered, none-clear, clear-append, clear-skip
 use Rattle.meaning.proofs.First.{numbered-append}
 use Rattle.meaning.proofs.Accepted.{ground1-fails, clear-well-formed, tree-numbered}
 use Rattle.trace.proofs.Fitting.{size-fits, cells-numbered, cells-low}
-use Rattle.value.specs.Valuing.{Legal}
+use Rattle.valuing.specs.Valuing.{Legal}
 
 module _ (s : List ℕ) (A L : ℕ) (cells : List ℕ) (room : ℕ) where
   abbrev last : List Ground

@@ -1,16 +1,8 @@
 // Valuing a formula over a trace.
-mod formula;
-
 ghost use mathlib.Core.Path.{_≡_};
-ghost use Prim.Native.Nat.{pred, _<_};
 ghost use lib.ListN.{length};
-ghost use Rattle.meaning.specs.Run.{written, cellOf};
-ghost use Rattle.meaning.specs.Record.{count};
-ghost use Rattle.meaning.specs.Tree.{formAt};
-ghost use Rattle.meaning.specs.Value.{valueOf};
 ghost use Rattle.meaning.specs.Refusal.{firstOf, valueGrounds};
-ghost use Rattle.meaning.specs.Service.{valueAnswer, valueAfter, table};
-ghost use Rattle.value.specs.Valuing.{Legal};
+ghost use Rattle.meaning.specs.Service.{valueAnswer, valueAfter};
 use checks::refusal;
 use records::layout;
 
@@ -31,7 +23,7 @@ pub fn value(records: &[u8], atoms: u64, instants: u64, cells: &[u8], out: &mut 
     if refusal != refusals::ACCEPTED {
         return Valued { refusal, value: 0 };
     }
-    let value = fill(records, atoms as usize, instants as usize, cells, out);
+    let value = valuing::fill(records, atoms as usize, instants as usize, cells, out);
     Valued {
         refusal: refusals::ACCEPTED,
         value,
@@ -55,15 +47,4 @@ fn first_refusal(records: &[u8], atoms: u64, instants: u64, cells: &[u8], room: 
         return refusals::NO_ROOM;
     }
     refusals::ACCEPTED
-}
-
-// The table of an accepted formula, and the whole formula's value at the first instant.
-fn fill(records: &[u8], atoms: usize, l: usize, cells: &[u8], out: &mut [u8]) -> u8
-    requires { ⌜ Legal (now records) atoms l (now cells) (length (now out)) ⌝ }
-    ensures { λ v. ⌜ (v ≡ valueOf l (cellOf atoms (now (cells .entry))) (formAt (now (records .entry)) (pred (count (now (records .entry))))) 0) × (now (out .exit) ≡ written (table (now (records .entry)) atoms l (now (cells .entry))) (now (out .entry))) ⌝ }
-{
-    let n = layout::record_count(records);
-    tables::put_constant(out, 0, tables::row_start(n, l), 0);
-    formula::value_formula(records, atoms, l, cells, n - 1, out);
-    out[tables::row_start(n - 1, l)]
 }

@@ -1,8 +1,8 @@
 -- `begins_with_test` meets its contract: only a sequence's first part is looked at.
 use borrow.Author.Needs.{needs}
 use borrow.Author.Tests.{eq-eqb, ne-eqb}
-use Rattle.value.proofs.formula.begins_with_test.Statement.{statement}
-use Rattle.value.proofs.formula.begins_with_test.Tie as tie
+use Rattle.valuing.proofs.formula.begins_with_test.Statement.{statement}
+use Rattle.valuing.proofs.formula.begins_with_test.Tie as tie
 
 returns : tie.Need-returns
 returns c = simp (eq-eqb _ _ (c .before .if1 .taken), c .kind-at .ensures)

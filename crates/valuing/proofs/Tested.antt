@@ -16,10 +16,10 @@ use Rattle.meaning.proofs.Reach.{only-there, value-there, there-bound, sequence
 use Rattle.rows.specs.Cells.{at, rowAt, Holds}
 use Rattle.squares.specs.Places.{capped}
 use Rattle.joining.specs.Joining.{joinOf}
-use Rattle.value.specs.Valuing.{Under, RowsValued, Squared}
+use Rattle.valuing.specs.Valuing.{Under, RowsValued, Squared}
 use Rattle.rows.proofs.Same.{Agree, holds-same}
-use Rattle.value.proofs.Children.{AskedAs, Tested, part-first, tested-formula}
-use Rattle.value.proofs.Recursion.{test-valued, test-agrees, join-done}
+use Rattle.valuing.proofs.Children.{AskedAs, Tested, part-first, tested-formula}
+use Rattle.valuing.proofs.Recursion.{test-valued, test-agrees, join-done}
 
 -- What the question for such a sequence says.
 pub begins : {s : List ℕ} {r n a : ℕ} {b : Bool} → a ≡ fieldA s r → b ≡ (eqb n 9 && eqb (kindByte s a) 7) → b ≡ true

@@ -15,9 +15,9 @@ use Rattle.records.proofs.Held.{path-first, join-second}
 use Rattle.rows.specs.Cells.{at}
 use Rattle.joining.specs.Joining.{joinOf}
 use Rattle.closing.specs.Closing.{Moving}
-use Rattle.value.specs.Valuing.{Asked, Moves, PathSquare}
-use Rattle.value.proofs.Meant.{sq, square-move, square-test, square-join}
-use Rattle.value.proofs.Children.{ask-first, ask-second}
+use Rattle.valuing.specs.Valuing.{Asked, Moves, PathSquare}
+use Rattle.valuing.proofs.Meant.{sq, square-move, square-test, square-join}
+use Rattle.valuing.proofs.Children.{ask-first, ask-second}
 
 -- ---- records
 -- The parts of a sequence are earlier records.

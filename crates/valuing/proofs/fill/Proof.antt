@@ -4,9 +4,9 @@ use mathlib.Core.Path.{_≡_, ap}
 use native.Mathlib.Omega.{arith}
 use borrow.Author.Needs.{needs}
 use Rattle.meaning.specs.Record.{count}
-use Rattle.value.proofs.Filled.{last-asked, first-value, first-within, table-written}
-use Rattle.value.proofs.fill.Statement.{statement}
-use Rattle.value.proofs.fill.Tie as tie
+use Rattle.valuing.proofs.Filled.{last-asked, first-value, first-within, table-written}
+use Rattle.valuing.proofs.fill.Statement.{statement}
+use Rattle.valuing.proofs.fill.Tie as tie
 
 -- ---- places: after the table is cleared, and after the last record is valued
 abbrev start : tie.After-row-start → tie.Start

@@ -14,7 +14,7 @@ use Rattle.meaning.specs.Value.{choiceSquare, sequenceSquare, starSquare}
 use Rattle.meaning.proofs.Nodes.{form-node, path-node}
 use Rattle.records.specs.Code.{wayOf, modeOf}
 use Rattle.joining.specs.Joining.{joinOf}
-use Rattle.value.specs.Valuing.{Asked}
+use Rattle.valuing.specs.Valuing.{Asked}
 use Rattle.records.proofs.Numbers.{constant-kind, atom-kind, modal-kind}
 use Rattle.records.proofs.Numbers.{move-kind, test-kind, join-kind, star-kind}
 

@@ -15,16 +15,16 @@ use Rattle.meaning.proofs.Onward.{square-bound}
 use Rattle.records.specs.Code.{modeOf, wayOf}
 use Rattle.rows.specs.Cells.{at, rowAt, Holds, Put}
 use Rattle.joining.specs.Joining.{PathPart, joinOf}
-use Rattle.value.specs.Valuing.{Under, Right, RowsValued, Squared}
+use Rattle.valuing.specs.Valuing.{Under, Right, RowsValued, Squared}
 use Rattle.meaning.proofs.Nodes.{differs}
 use Rattle.records.proofs.Numbers.{path-number, formula-number}
-use Rattle.value.proofs.Meant.{val, sq, value-constant, value-atom, value-modal}
+use Rattle.valuing.proofs.Meant.{val, sq, value-constant, value-atom, value-modal}
 use Rattle.closing.proofs.Closure.{star-again}
-use Rattle.value.proofs.Meant.{square-move, square-test, square-join, square-star}
+use Rattle.valuing.proofs.Meant.{square-move, square-test, square-join, square-star}
 use Rattle.rows.proofs.Same.{Agree, holds-same, star-same, modal-same}
 use Rattle.joining.proofs.Joined.{joined-same}
-use Rattle.value.proofs.Table.{under-all, steady-same, steady-lower, steady-then, put-right, put-steady}
-use Rattle.value.proofs.Children.{AskedAs, test-formula, part-first, part-second, modal-path, modal-formula}
+use Rattle.valuing.proofs.Table.{under-all, steady-same, steady-lower, steady-then, put-right, put-steady}
+use Rattle.valuing.proofs.Children.{AskedAs, test-formula, part-first, part-second, modal-path, modal-formula}
 use Rattle.records.proofs.Held.{Childless, constant-first, leaf-second, atom-first}
 use Rattle.records.proofs.Held.{move-first, move-second, star-second}
 

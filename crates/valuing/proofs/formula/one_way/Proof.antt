@@ -4,11 +4,11 @@ use mathlib.Core.Path.{_≡_, sym, _∙_}
 use mathlib.Core.Logic.{⊎-elim}
 use native.Mathlib.Omega.{arith}
 use Rattle.meaning.specs.Record.{count, kindByte}
-use Rattle.value.specs.Valuing.{Moves}
-use Rattle.value.proofs.Moved.{first-earlier, second-earlier, moves-tested, moves-testing}
+use Rattle.valuing.specs.Valuing.{Moves}
+use Rattle.valuing.proofs.Moved.{first-earlier, second-earlier, moves-tested, moves-testing}
 use borrow.Author.Needs.{needs}
-use Rattle.value.proofs.formula.one_way.Statement.{statement}
-use Rattle.value.proofs.formula.one_way.Tie as tie
+use Rattle.valuing.proofs.formula.one_way.Statement.{statement}
+use Rattle.valuing.proofs.formula.one_way.Tie as tie
 
 abbrev Inv-loop : tie.InvT-loop
 Inv-loop records p q₀ kind₀ q kind =

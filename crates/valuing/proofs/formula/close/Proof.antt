@@ -1,11 +1,11 @@
 -- `close` meets its contract: a star is closed; and where the path is one move with tests about it, its square is at most the move's.
 use native.Mathlib.Omega.{arith}
 use Rattle.records.specs.Code.{wayOf}
-use Rattle.value.proofs.Moved.{square-moving}
-use Rattle.value.proofs.Recursion.{square-low, star-closed}
+use Rattle.valuing.proofs.Moved.{square-moving}
+use Rattle.valuing.proofs.Recursion.{square-low, star-closed}
 use mathlib.Core.Path.{refl}
-use Rattle.value.proofs.formula.close.Statement.{statement}
-use Rattle.value.proofs.formula.close.Tie as tie
+use Rattle.valuing.proofs.formula.close.Statement.{statement}
+use Rattle.valuing.proofs.formula.close.Tie as tie
 
 kind-at-requires : tie.Need-kind-at-requires
 kind-at-requires c κs = c .before .pre .asked .index

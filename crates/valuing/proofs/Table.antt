@@ -14,7 +14,7 @@ use Rattle.meaning.specs.Tree.{formAt}
 use Rattle.meaning.specs.Value.{valueOf}
 use Rattle.meaning.proofs.Bounds.{le-or-lt}
 use Rattle.rows.specs.Cells.{rowAt, Put}
-use Rattle.value.specs.Valuing.{Under, itself, first, second, Right, Steady}
+use Rattle.valuing.specs.Valuing.{Under, itself, first, second, Right, Steady}
 use Rattle.meaning.proofs.Nodes.{differs}
 
 -- A row ends where or before a later one starts.

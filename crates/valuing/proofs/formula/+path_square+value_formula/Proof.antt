@@ -4,24 +4,24 @@
 mod Claims
 use mathlib.Core.Path.{refl, sym, _∙_}
 use native.Mathlib.Omega.{arith}
-use Rattle.value.proofs.Table.{row-end}
-use Rattle.value.proofs.Children.{test-formula, tested-formula, tested-path, part-first, part-second}
-use Rattle.value.proofs.Children.{modal-path, modal-formula, child-along, row-low, row-within, atom-low}
-use Rattle.value.proofs.Recursion.{square-part, move-done, test-done, star-done, join-done}
-use Rattle.value.proofs.Recursion.{constant-done, atom-done, modal-done}
-use Rattle.value.proofs.Tested.{begins, tested-done}
+use Rattle.valuing.proofs.Table.{row-end}
+use Rattle.valuing.proofs.Children.{test-formula, tested-formula, tested-path, part-first, part-second}
+use Rattle.valuing.proofs.Children.{modal-path, modal-formula, child-along, row-low, row-within, atom-low}
+use Rattle.valuing.proofs.Recursion.{square-part, move-done, test-done, star-done, join-done}
+use Rattle.valuing.proofs.Recursion.{constant-done, atom-done, modal-done}
+use Rattle.valuing.proofs.Tested.{begins, tested-done}
 use borrow.Author.Needs.{needs}
 use Prim.Native.Nat.{_≤_}
 use borrow.Fn.Kinds.{In, Out}
-use Rattle.value.proofs.formula.path_square.Reads as path-square
-use Rattle.value.proofs.formula.path_square.Kinds as path-kinds
-use Rattle.value.proofs.formula.+path_square+value_formula.Lts-path_square as path
-use Rattle.value.proofs.formula.value_formula.Reads as value-formula
-use Rattle.value.proofs.formula.value_formula.Kinds as formula-kinds
-use Rattle.value.proofs.formula.+path_square+value_formula.Lts-value_formula as formula
-use Rattle.value.proofs.formula.+path_square+value_formula.Proof.Claims.{μ, at, path-claims, formula-claims}
-use Rattle.value.proofs.formula.+path_square+value_formula.{statement}
-use Rattle.value.proofs.formula.+path_square+value_formula.Tie.{close}
+use Rattle.valuing.proofs.formula.path_square.Reads as path-square
+use Rattle.valuing.proofs.formula.path_square.Kinds as path-kinds
+use Rattle.valuing.proofs.formula.+path_square+value_formula.Lts-path_square as path
+use Rattle.valuing.proofs.formula.value_formula.Reads as value-formula
+use Rattle.valuing.proofs.formula.value_formula.Kinds as formula-kinds
+use Rattle.valuing.proofs.formula.+path_square+value_formula.Lts-value_formula as formula
+use Rattle.valuing.proofs.formula.+path_square+value_formula.Proof.Claims.{μ, at, path-claims, formula-claims}
+use Rattle.valuing.proofs.formula.+path_square+value_formula.{statement}
+use Rattle.valuing.proofs.formula.+path_square+value_formula.Tie.{close}
 
 -- ---- places of path_square
 module _ {C : path.Claims} {P : In 3 path-kinds.ps} {Q : Out 3 path-kinds.ps path-kinds.r} where

@@ -12,11 +12,11 @@ use Rattle.meaning.specs.Tree.{formAt}
 use Rattle.meaning.specs.Value.{valueOf}
 use Rattle.meaning.specs.Service.{rowBy, rowOf, table}
 use Rattle.rows.specs.Cells.{rowAt, Put}
-use Rattle.value.specs.Valuing.{Under, Legal, Asked, RowsValued}
-use Rattle.value.proofs.Table.{row-end}
-use Rattle.value.proofs.Tabled.{rows-written}
-use Rattle.value.proofs.Reached.{all-under}
-use Rattle.value.proofs.Children.{row-room}
+use Rattle.valuing.specs.Valuing.{Under, Legal, Asked, RowsValued}
+use Rattle.valuing.proofs.Table.{row-end}
+use Rattle.valuing.proofs.Tabled.{rows-written}
+use Rattle.valuing.proofs.Reached.{all-under}
+use Rattle.valuing.proofs.Children.{row-room}
 
 module _ {s : List ℕ} {A L : ℕ} {cells d : List ℕ} (w : Legal s A L cells (length d))
     {n r : ℕ} (number : n ≡ count s) (one : suc r ≡ n) {cleared : List ℕ}

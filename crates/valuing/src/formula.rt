@@ -7,7 +7,7 @@ ghost use Rattle.meaning.specs.Record.{core, count, formula, path, sortOf, kind
 ghost use Rattle.meaning.specs.Value.{starSquare};
 ghost use Rattle.meaning.specs.WellFormed.{WellFormed};
 ghost use Rattle.rows.specs.Cells.{at, Holds};
-ghost use Rattle.value.specs.Valuing.{Asked, RowsValued, Squared, Moves, PathSquare};
+ghost use Rattle.valuing.specs.Valuing.{Asked, RowsValued, Squared, Moves, PathSquare};
 use records::kind;
 use records::layout;
 use rows::Square;

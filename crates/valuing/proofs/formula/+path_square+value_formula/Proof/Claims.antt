@@ -16,13 +16,13 @@ use Rattle.tables.proofs.put_atom.Reads as put-atom
 use Rattle.tables.proofs.put_constant.Reads as put-constant
 use Rattle.tables.proofs.put_modal.Reads as put-modal
 use Rattle.tables.proofs.row_start.Reads as row-start
-use Rattle.value.proofs.formula.begins_with_test.Reads as begins-with-test
-use Rattle.value.proofs.formula.close.Reads as close
-use Rattle.value.proofs.formula.path_square.Reads as path-square
-use Rattle.value.proofs.formula.path_square.Kinds.{ps}
-use Rattle.value.proofs.formula.+path_square+value_formula.Lts-path_square as path
-use Rattle.value.proofs.formula.value_formula.Reads as value-formula
-use Rattle.value.proofs.formula.+path_square+value_formula.Lts-value_formula as formula
+use Rattle.valuing.proofs.formula.begins_with_test.Reads as begins-with-test
+use Rattle.valuing.proofs.formula.close.Reads as close
+use Rattle.valuing.proofs.formula.path_square.Reads as path-square
+use Rattle.valuing.proofs.formula.path_square.Kinds.{ps}
+use Rattle.valuing.proofs.formula.+path_square+value_formula.Lts-path_square as path
+use Rattle.valuing.proofs.formula.value_formula.Reads as value-formula
+use Rattle.valuing.proofs.formula.+path_square+value_formula.Lts-value_formula as formula
 
 abbrev pub μ : Measures 3 ps ℕ
 μ κs a = a .1 .1 .1 .1 .0

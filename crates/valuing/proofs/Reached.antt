@@ -9,7 +9,7 @@ use Rattle.meaning.specs.Record.{Language, count, parent}
 use Rattle.meaning.specs.WellFormed.{WellFormed}
 use Rattle.meaning.proofs.Bounds.{le-or-lt}
 use Rattle.meaning.proofs.Parents.{InFirst, InSecond, used-in, has-parent, child-earlier}
-use Rattle.value.specs.Valuing.{Under, itself, first, second}
+use Rattle.valuing.specs.Valuing.{Under, itself, first, second}
 
 under-trans : {s : List ℕ} {r q p : ℕ} → Under s r q → Under s q p → Under s r p
 under-trans itself v = v

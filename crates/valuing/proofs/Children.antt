@@ -11,8 +11,8 @@ use Rattle.meaning.specs.Refusal.{mostInstants}
 use Rattle.records.proofs.Held.{test-first, path-first, join-second, modal-first, modal-second}
 use Rattle.records.proofs.Numbers.{path-number, formula-number}
 use Rattle.records.proofs.Ranges.{stretch}
-use Rattle.value.specs.Valuing.{Asked}
-use Rattle.value.proofs.Table.{row-end}
+use Rattle.valuing.specs.Valuing.{Asked}
+use Rattle.valuing.proofs.Table.{row-end}
 
 -- The record r is of the sort σ and may be valued into the table t: at a call, where the measure m is its number, and
 -- as a child, below that.
