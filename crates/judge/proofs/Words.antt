@@ -1,9 +1,9 @@
 -- The words of a rule. Row k of the cells ends before row k + 1 begins, so a symbol below 2 + W has its cell in the trace.
 -- Of a rule in form, each literal's symbol is below 2 + W.
 -- At an instant of its place a rule fails where its body is worth more than its head.
-use Prim.Native.Nat.{ℕ, zero, suc, _+_, _*_, _-_, _<_, _≤_, min}
+use Prim.Native.Nat.{ℕ, zero, suc, pred, _+_, _*_, _-_, _<_, _≤_, min}
 use mathlib.Core.Path.{_≡_, refl, sym, ap}
-use mathlib.Core.Bool.{Bool, true, false, not, true≢false}
+use mathlib.Core.Bool.{Bool, true, false, cond, not, true≢false}
 use mathlib.Core.List.{List}
 use mathlib.Core.Logic.{_⊎_, inl, inr}
 use native.Mathlib.Nat.{mul-suc, mul-le-mul-left}
@@ -16,7 +16,7 @@ use Rattle.meaning.specs.Rule.{Rule, symbolOf, symbolValue, literal, bodyValue,
 use Rattle.meaning.specs.Refusal.{badLiteral, badRule}
 use Rattle.meaning.proofs.Fails.{tests}
 use Rattle.meaning.proofs.Holding.{rule-holds}
-use Rattle.judge.specs.Filled.{Lookable}
+use Rattle.judge.specs.Filled.{Readable}
 
 -- ---- symbols
 pub column : (cell : ℕ → ℕ → ℕ) (symbol k : ℕ) → 2 ≤ symbol → symbolValue cell symbol k ≡ cell k (symbol - 2)
@@ -25,23 +25,28 @@ column cell zero k h = absurd (omega arith)
 column cell (suc zero) k h = absurd (omega arith)
 column cell (suc (suc i)) k h = ap (cell k) (omega arith)
 
-pub in-row : (W k L : ℕ) {i : ℕ} → k < L → i < W → W * k + i < W * L
-in-row W k L h l = omega (arith, rw mul-suc at (mul-le-mul-left W h))
+pub in-row : (W : ℕ) {k L : ℕ} → k < L → W * k + W ≤ W * L
+in-row W h = omega (arith, rw mul-suc at (mul-le-mul-left W h))
+
+-- The row of the instant that a word speaks of stands there too.
+pub spoken-row : (W k : ℕ) (previous : Bool) {n : ℕ} → W * k + W ≤ n → W * cond previous (pred k) k + W ≤ n
+spoken-row W zero true h = h
+spoken-row W (suc k) true h = omega (arith, mul-suc W k)
+spoken-row W k false h = h
 
 -- ---- forms
 -- What looking up a literal asks, of each literal of a rule.
-pub may-look : (ρ : Rule) {W L : ℕ} {cells : List ℕ} {k : ℕ} → Lookable ρ W L cells k
-    → let Look : ℕ → Type 0 = λ w. (symbolOf w < 2 + W) × (k < L) × (length cells ≡ W * L) in
+pub may-look : (ρ : Rule) {W : ℕ} {cells : List ℕ} {k : ℕ} → Readable ρ W cells k
+    → let Look : ℕ → Type 0 = λ w. (symbolOf w < 2 + W) × (W * k + W ≤ length cells) in
     Look (ρ .body1) × Look (ρ .body2) × Look (ρ .head1) × Look (ρ .head2) × Look (ρ .head3)
 unfolding badRule badLiteral
 may-look ρ f =
     let e = simp tests at (f .form) in
-    let l = f .instant in
-    let s = f .size in
-    ((e .0 .0 .0 .0 .1 .0, l, s), (e .0 .0 .0 .1 .0, l, s), (e .0 .0 .1 .0, l, s), (e .0 .1 .0, l, s), (e .1 .0, l, s))
+    let r = f .row in
+    ((e .0 .0 .0 .0 .1 .0, r), (e .0 .0 .0 .1 .0, r), (e .0 .0 .1 .0, r), (e .0 .1 .0, r), (e .1 .0, r))
 
 -- ---- failing, by the values as the code made them
-module _ (ρ : Rule) {W L : ℕ} {cells : List ℕ} {k : ℕ} (f : Lookable ρ W L cells k) where
+module _ (ρ : Rule) {W : ℕ} {cells : List ℕ} {k : ℕ} (f : Readable ρ W cells k) where
   abbrev value : ℕ → ℕ
   value w = literal (cellOf W cells) w k
 

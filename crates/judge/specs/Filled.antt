@@ -1,11 +1,11 @@
 -- What judging asks once the refusals are past, and an answer by its four numbers.
 --   Filled ws W L cells        rules in form over W columns, and a filled trace
---   Lookable ρ W L cells k     a rule in form, and an instant of a filled trace
+--   Readable ρ W cells k       a rule in form, and an instant whose row a filled trace has
 --   six ..                     the rule of six words
 --   startOf L place            the first instant of a place
 --   endOf L place              the instant after its last
 --   Gives refusal .. answer    the four numbers are the answer's
-use Prim.Native.Nat.{ℕ, _*_, _-_, _<_, _≤_}
+use Prim.Native.Nat.{ℕ, _+_, _*_, _-_, _<_, _≤_}
 use mathlib.Core.Path.{_≡_}
 use mathlib.Core.Bool.{false, cond}
 use mathlib.Core.List.{List}
@@ -22,11 +22,10 @@ pub record Filled (ws : List ℕ) (W L : ℕ) (cells : List ℕ) : Type 0 where
   pub some : 0 < L
   pub low : (i : ℕ) → getD cells i 0 ≤ 2
 
-pub record Lookable (ρ : Rule) (W L : ℕ) (cells : List ℕ) (k : ℕ) : Type 0 where
+pub record Readable (ρ : Rule) (W : ℕ) (cells : List ℕ) (k : ℕ) : Type 0 where
   pub form : badRule W ρ ≡ false
-  pub size : length cells ≡ W * L
+  pub row : W * k + W ≤ length cells
   pub low : (i : ℕ) → getD cells i 0 ≤ 2
-  pub instant : k < L
 
 abbrev pub six : ℕ → ℕ → ℕ → ℕ → ℕ → ℕ → Rule
 six place body1 body2 head1 head2 head3 =

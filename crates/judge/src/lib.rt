@@ -10,7 +10,7 @@ ghost use Rattle.meaning.specs.Rule.{holds};
 ghost use Rattle.meaning.specs.Judge.{verdict};
 ghost use Rattle.meaning.specs.Refusal.{firstOf, judgeGrounds};
 ghost use Rattle.meaning.specs.Service.{judgment, judgeAnswer};
-ghost use Rattle.judge.specs.Filled.{Filled, Lookable, Gives, six};
+ghost use Rattle.judge.specs.Filled.{Filled, Readable, Gives, six};
 use crate::rule::Rule;
 use rules::RULE_SIZE;
 
@@ -69,7 +69,7 @@ fn first_failure(rules: &[u16], width: usize, l: usize, cells: &[u8]) -> Judged
         let end = literal::end_of(l, rule.place);
         k = literal::start_of(l, rule.place);
         while k < end {
-            if fails_at(rule, width, l, cells, k) {
+            if fails_at(rule, width, cells, k) {
                 break 'rules;
             }
             k += 1;
@@ -94,20 +94,20 @@ fn first_failure(rules: &[u16], width: usize, l: usize, cells: &[u8]) -> Judged
 }
 
 // Whether a rule fails at an instant k of its place: its body is worth more than its head. A word is looked up where it may decide.
-fn fails_at(rule: Rule, width: usize, l: usize, cells: &[u8], k: usize) -> bool
-    requires { ⌜ Lookable (six (rule .place) (rule .body1) (rule .body2) (rule .head1) (rule .head2) (rule .head3)) width l (now cells) k ⌝ }
+fn fails_at(rule: Rule, width: usize, cells: &[u8], k: usize) -> bool
+    requires { ⌜ Readable (six (rule .place) (rule .body1) (rule .body2) (rule .head1) (rule .head2) (rule .head3)) width (now cells) k ⌝ }
     ensures { λ b. ⌜ b ≡ not (holds (cellOf width (now (cells .entry))) (six (rule .place) (rule .body1) (rule .body2) (rule .head1) (rule .head2) (rule .head3)) k) ⌝ }
 {
-    let u = literal::literal_at(rule.body1, width, l, cells, k);
+    let u = literal::literal_at(rule.body1, width, cells, k);
     if u == 0 {
         return false;
     }
-    let body = three::lesser(u, literal::literal_at(rule.body2, width, l, cells, k));
-    if body <= literal::literal_at(rule.head1, width, l, cells, k) {
+    let body = three::lesser(u, literal::literal_at(rule.body2, width, cells, k));
+    if body <= literal::literal_at(rule.head1, width, cells, k) {
         return false;
     }
-    if body <= literal::literal_at(rule.head2, width, l, cells, k) {
+    if body <= literal::literal_at(rule.head2, width, cells, k) {
         return false;
     }
-    literal::literal_at(rule.head3, width, l, cells, k) < body
+    literal::literal_at(rule.head3, width, cells, k) < body
 }

@@ -1,9 +1,10 @@
 // Words of a rule: literals and places.
 ghost use mathlib.Core.Path.{_≡_};
-ghost use Prim.Native.Nat.{pred, _+_, _*_, _<_};
+ghost use Prim.Native.Nat.{pred, _+_, _*_, _<_, _≤_};
+ghost use mathlib.Core.Bool.{cond};
 ghost use lib.ListN.{length};
 ghost use Rattle.meaning.specs.Run.{cellOf};
-ghost use Rattle.meaning.specs.Rule.{symbolOf, isPrevious, isNegated, symbolValue, plain, literal};
+ghost use Rattle.meaning.specs.Rule.{symbolOf, isPrevious, isNegated, symbolValue, literal};
 ghost use Rattle.judge.specs.Filled.{startOf, endOf};
 use rules::FALSE;
 use rules::FIRST;
@@ -56,31 +57,24 @@ pub fn end_of(l: usize, place: u16) -> usize
 }
 
 // The value of a literal at instant k.
-pub fn literal_at(word: u16, width: usize, l: usize, cells: &[u8], k: usize) -> u8
-    requires { ⌜ (symbolOf word < 2 + width) × (k < l) × (length (now cells) ≡ width * l) ⌝ }
+pub fn literal_at(word: u16, width: usize, cells: &[u8], k: usize) -> u8
+    requires { ⌜ (symbolOf word < 2 + width) × (width * k + width ≤ length (now cells)) ⌝ }
     ensures { λ v. ⌜ v ≡ literal (cellOf width (now (cells .entry))) word k ⌝ }
 {
-    let u = plain_at(word, width, l, cells, k);
+    let u = symbol_at(symbol(word), width, cells, instant_of(word, k));
     if is_negated(word) {
         return three::negation(u);
     }
     u
 }
 
-// The same, with no regard to the mark of negation.
-fn plain_at(word: u16, width: usize, l: usize, cells: &[u8], k: usize) -> u8
-    requires { ⌜ (symbolOf word < 2 + width) × (k < l) × (length (now cells) ≡ width * l) ⌝ }
-    ensures { λ v. ⌜ v ≡ plain (cellOf width (now (cells .entry))) word k ⌝ }
+// The instant that a word at instant k speaks of.
+fn instant_of(word: u16, k: usize) -> usize
+    ensures { λ q. ⌜ q ≡ cond (isPrevious word) (pred k) k ⌝ }
 {
-    if is_previous(word) {
-        return symbol_at(symbol(word), width, l, cells, before(k));
+    if !is_previous(word) {
+        return k;
     }
-    symbol_at(symbol(word), width, l, cells, k)
-}
-
-fn before(k: usize) -> usize
-    ensures { λ q. ⌜ q ≡ pred k ⌝ }
-{
     if k == 0 {
         return 0;
     }
@@ -88,8 +82,8 @@ fn before(k: usize) -> usize
 }
 
 // The value of a symbol: that of a constant, or a column's cell.
-fn symbol_at(symbol: u16, width: usize, l: usize, cells: &[u8], k: usize) -> u8
-    requires { ⌜ (symbol < 2 + width) × (k < l) × (length (now cells) ≡ width * l) ⌝ }
+fn symbol_at(symbol: u16, width: usize, cells: &[u8], k: usize) -> u8
+    requires { ⌜ (symbol < 2 + width) × (width * k + width ≤ length (now cells)) ⌝ }
     ensures { λ v. ⌜ v ≡ symbolValue (cellOf width (now (cells .entry))) symbol k ⌝ }
 {
     if symbol == FALSE {

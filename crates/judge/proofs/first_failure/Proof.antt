@@ -7,7 +7,7 @@ use borrow.Author.Needs.{needs}
 use Rattle.meaning.specs.Run.{cellOf}
 use Rattle.meaning.specs.Service.{judgment}
 use Rattle.meaning.proofs.Judging.{yes-means}
-use Rattle.judge.proofs.PlaceStretch.{rule-stretch}
+use Rattle.judge.proofs.{Words.in-row, PlaceStretch.rule-stretch}
 use Rattle.judge.proofs.Scanning.{RulesHold, HeldSoFar, scanned-none, scanned-more, scanned-found, scanned-done}
 use Rattle.judge.proofs.first_failure.Statement.{statement}
 use Rattle.judge.proofs.first_failure.Tie as tie
@@ -36,9 +36,8 @@ fails-at-requires c κs =
     let f = r .before .before .before .before .before .pre in
     record {
       form = rw (r .rule-at .ensures) (f .forms _ (omega arith));
-      size = f .size;
+      row = rw (f .size) (in-row _ (omega (arith, c .before .loop .inv .stretch .last)));
       low = f .low;
-      instant = omega (arith, c .before .loop .inv .stretch .last);
     }
 
 loop-again : tie.Need-loop-again Inv-loop μ-loop Inv-rules μ-rules

@@ -5,15 +5,13 @@ use native.Mathlib.Omega.{arith}
 use lib.ListN.{length}
 use borrow.Author.Needs.{needs}
 use Rattle.meaning.specs.Rule.{symbolValue}
-use Rattle.judge.proofs.Words.{column, in-row}
+use Rattle.judge.proofs.Words.{column}
 use Rattle.judge.proofs.literal.symbol_at.Statement.{statement}
 use Rattle.judge.proofs.literal.symbol_at.Tie as tie
 
 within : (c : tie.Else2)
     → let a = c .before .before .args in a .width * a .k + (a .symbol - 2) < length (a .cells .now)
-within c =
-    let s = c .before .before in
-    rw (s .pre .2) (in-row (s .args .width) (s .args .k) (s .args .l) (s .pre .1) (omega arith))
+within c = omega (arith, c .before .before .pre .1)
 
 returns : tie.Need-returns
 unfolding symbolValue
