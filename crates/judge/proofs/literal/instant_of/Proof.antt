@@ -1,7 +1,7 @@
 -- `literal::instant_of` meets its contract: the mark says whether the instant is k or the one before it.
-use Prim.Native.Nat.{pred, _-_}
+use Prim.Native.Nat.{ℕ, pred}
 use mathlib.Core.Path.{_≡_, sym, _∙_}
-use mathlib.Core.Bool.{true}
+use mathlib.Core.Bool.{Bool, true, cond}
 use native.Mathlib.Omega.{arith}
 use borrow.Author.Tests.{not-true, not-false}
 use borrow.Author.Needs.{needs}
@@ -13,14 +13,14 @@ use Rattle.judge.proofs.literal.instant_of.Tie as tie
 marked : (c : tie.Else1) → isPrevious (c .before .before .args .word) ≡ true
 marked c = sym (c .before .is-previous .ensures) ∙ not-false _ (c .if1 .left)
 
+before : (k : ℕ) {b : Bool} {q : ℕ} → b ≡ true → q ≡ pred k → q ≡ cond b (pred k) k
+before k e h = rw e h
+
 returns-2 : tie.Need-returns-2
-returns-2 c = let one = c .before in let e : 0 ≡ pred (one .before .before .args .k) = omega arith in rw (marked one) e
+returns-2 c = before (c .before .before .before .args .k) (marked (c .before)) (omega arith)
 
 returns-3 : tie.Need-returns-3
-returns-3 c =
-    let one = c .before in let k = one .before .before .args .k in
-    let e : k - 1 ≡ pred k = omega arith in
-    rw (marked one) e
+returns-3 c = before (c .before .before .before .args .k) (marked (c .before)) (omega arith)
 
 pub instant-of-spec : {M : Type 1} → statement M
 instant-of-spec = tie.close (tie.spec
