@@ -86,11 +86,9 @@ fn symbol_at(symbol: u16, width: usize, cells: &[u8], k: usize) -> u8
     requires { ⌜ (symbol < 2 + width) × (width * k + width ≤ length (now cells)) ⌝ }
     ensures { λ v. ⌜ v ≡ symbolValue (cellOf width (now (cells .entry))) symbol k ⌝ }
 {
-    if symbol == FALSE {
-        return 0;
+    match symbol {
+        FALSE => 0,
+        TRUE => 2,
+        _ => cells[width * k + (symbol - FIRST_COLUMN) as usize],
     }
-    if symbol == TRUE {
-        return 2;
-    }
-    cells[width * k + (symbol - FIRST_COLUMN) as usize]
 }

@@ -1,6 +1,6 @@
 -- `literal::symbol_at` meets its contract: symbols 0 and 1 are values, and any other has its cell in row k.
-use Prim.Native.Nat.{_+_, _*_, _-_, _<_}
-use mathlib.Core.Path.{sym}
+use Prim.Native.Nat.{ℕ, _+_, _*_, _-_, _<_, _≤_}
+use mathlib.Core.Path.{_≡_, sym}
 use native.Mathlib.Omega.{arith}
 use lib.ListN.{length}
 use borrow.Author.Needs.{needs}
@@ -9,17 +9,16 @@ use Rattle.judge.proofs.Words.{column}
 use Rattle.judge.proofs.literal.symbol_at.Statement.{statement}
 use Rattle.judge.proofs.literal.symbol_at.Tie as tie
 
-within : (c : tie.Else2)
-    → let a = c .before .before .args in a .width * a .k + (a .symbol - 2) < length (a .cells .now)
-within c = omega (arith, c .before .before .pre .1)
+-- A symbol that is neither constant is a column.
+two : (n : ℕ) → (n ≡ 0 → ⊥) → (n ≡ 1 → ⊥) → 2 ≤ n
+two n p q = omega arith
 
-returns : tie.Need-returns
-unfolding symbolValue
-returns c = rw (c .if1 .taken)
+late : (c : tie.At-match-rest) → 2 ≤ c .before .args .symbol
+late c = let ((_, p), q) = c .match .rest in two _ p q
 
-returns-2 : tie.Need-returns-2
-unfolding symbolValue
-returns-2 c = rw (c .if2 .taken)
+within : (c : tie.At-match-rest)
+    → let a = c .before .args in a .width * a .k + (a .symbol - 2) < length (a .cells .now)
+within c = omega (arith, late c, c .before .pre .1)
 
 mul-result : tie.Need-mul-result
 mul-result c = let h = within c in omega arith
@@ -30,11 +29,8 @@ add-result c = let h = within c in omega arith
 shared-slice-read-result : tie.Need-shared-slice-read-result
 shared-slice-read-result c = let h = within (c .before) in omega arith
 
-returns-3 : tie.Need-returns-3
-returns-3 c = sym (column _ _ _ (omega arith))
-
 pub symbol-at-spec : {M : Type 1} → statement M
-symbol-at-spec =
-    tie.close
-    (tie.spec
-    returns returns-2 mul-result (λ c. search needs) (λ c. search needs) add-result shared-slice-read-result returns-3)
+unfolding symbolValue
+symbol-at-spec = tie.close (tie.spec
+    mul-result (λ c. late c) (λ c. search needs) add-result shared-slice-read-result
+    (λ c. rw (c .match .keys1)) (λ c. rw (c .match .keys2)) (λ c. sym (column _ _ _ (late (c .before)))))
