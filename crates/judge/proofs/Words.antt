@@ -16,7 +16,7 @@ use Rattle.meaning.specs.Rule.{Rule, symbolOf, symbolValue, literal, bodyValue,
 use Rattle.meaning.specs.Refusal.{badLiteral, badRule}
 use Rattle.meaning.proofs.Fails.{tests}
 use Rattle.meaning.proofs.Holding.{rule-holds}
-use Rattle.judge.specs.Filled.{Readable}
+use Rattle.judge.specs.Filled.{Lookable}
 
 -- ---- symbols
 pub column : (cell : ℕ → ℕ → ℕ) (symbol k : ℕ) → 2 ≤ symbol → symbolValue cell symbol k ≡ cell k (symbol - 2)
@@ -36,7 +36,7 @@ spoken-row W k false h = h
 
 -- ---- forms
 -- What looking up a literal asks, of each literal of a rule.
-pub may-look : (ρ : Rule) {W : ℕ} {cells : List ℕ} {k : ℕ} → Readable ρ W cells k
+pub may-look : (ρ : Rule) {W : ℕ} {cells : List ℕ} {k : ℕ} → Lookable ρ W cells k
     → let Look : ℕ → Type 0 = λ w. (symbolOf w < 2 + W) × (W * k + W ≤ length cells) in
     Look (ρ .body1) × Look (ρ .body2) × Look (ρ .head1) × Look (ρ .head2) × Look (ρ .head3)
 unfolding badRule badLiteral
@@ -46,7 +46,7 @@ may-look ρ f =
     ((e .0 .0 .0 .0 .1 .0, r), (e .0 .0 .0 .1 .0, r), (e .0 .0 .1 .0, r), (e .0 .1 .0, r), (e .1 .0, r))
 
 -- ---- failing, by the values as the code made them
-module _ (ρ : Rule) {W : ℕ} {cells : List ℕ} {k : ℕ} (f : Readable ρ W cells k) where
+module _ (ρ : Rule) {W : ℕ} {cells : List ℕ} {k : ℕ} (f : Lookable ρ W cells k) where
   abbrev value : ℕ → ℕ
   value w = literal (cellOf W cells) w k
 

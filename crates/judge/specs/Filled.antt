@@ -1,6 +1,6 @@
 -- What judging asks once the refusals are past, and an answer by its four numbers.
 --   Filled ws W L cells        rules in form over W columns, and a filled trace
---   Readable ρ W cells k       a rule in form, and an instant whose row a filled trace has
+--   Lookable ρ W cells k       a rule in form, and an instant whose row a filled trace has
 --   six ..                     the rule of six words
 --   startOf L place            the first instant of a place
 --   endOf L place              the instant after its last
@@ -22,7 +22,7 @@ pub record Filled (ws : List ℕ) (W L : ℕ) (cells : List ℕ) : Type 0 where
   pub some : 0 < L
   pub low : (i : ℕ) → getD cells i 0 ≤ 2
 
-pub record Readable (ρ : Rule) (W : ℕ) (cells : List ℕ) (k : ℕ) : Type 0 where
+pub record Lookable (ρ : Rule) (W : ℕ) (cells : List ℕ) (k : ℕ) : Type 0 where
   pub form : badRule W ρ ≡ false
   pub row : W * k + W ≤ length cells
   pub low : (i : ℕ) → getD cells i 0 ≤ 2

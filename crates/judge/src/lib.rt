@@ -10,7 +10,7 @@ ghost use Rattle.meaning.specs.Rule.{holds};
 ghost use Rattle.meaning.specs.Judge.{verdict};
 ghost use Rattle.meaning.specs.Refusal.{firstOf, judgeGrounds};
 ghost use Rattle.meaning.specs.Service.{judgment, judgeAnswer};
-ghost use Rattle.judge.specs.Filled.{Filled, Readable, Gives, six};
+ghost use Rattle.judge.specs.Filled.{Filled, Lookable, Gives, six};
 use crate::rule::Rule;
 use rules::RULE_SIZE;
 
@@ -95,7 +95,7 @@ fn first_failure(rules: &[u16], width: usize, l: usize, cells: &[u8]) -> Judged
 
 // Whether a rule fails at an instant k of its place: its body is worth more than its head. A word is looked up where it may decide.
 fn fails_at(rule: Rule, width: usize, cells: &[u8], k: usize) -> bool
-    requires { ⌜ Readable (six (rule .place) (rule .body1) (rule .body2) (rule .head1) (rule .head2) (rule .head3)) width (now cells) k ⌝ }
+    requires { ⌜ Lookable (six (rule .place) (rule .body1) (rule .body2) (rule .head1) (rule .head2) (rule .head3)) width (now cells) k ⌝ }
     ensures { λ b. ⌜ b ≡ not (holds (cellOf width (now (cells .entry))) (six (rule .place) (rule .body1) (rule .body2) (rule .head1) (rule .head2) (rule .head3)) k) ⌝ }
 {
     let u = literal::literal_at(rule.body1, width, cells, k);
