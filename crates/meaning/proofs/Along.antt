@@ -5,11 +5,11 @@
 -- previous instant. What a later instant adds is after the same test of F in all of them, so the test stands before their greatest.
 --   overIn m a b f          the greatest of f over the instants a .. b - 1 under a diamond, the least under a box
 --   shifted w L f k else    f at the instant beside k in the way w; `else` where there is none
-use Prim.Native.Nat.{ℕ, zero, suc, _+_, _-_, _≤_, _<_, min, pred, zero-le}
+use Prim.Native.Nat.{ℕ, zero, suc, _+_, _-_, _≤_, _<_, min, max, pred, zero-le}
 use mathlib.Core.Path.{_≡_, refl, sym, ap, _∙_}
 use mathlib.Core.Bool.{cond, false}
 use mathlib.Core.Logic.{inl, inr}
-use native.Mathlib.Nat.{add-zero, le-refl}
+use native.Mathlib.Nat.{add-zero, le-refl, le-trans, le-min, min-le-left, min-le-right, max-eq-left, max-eq-right}
 use native.Mathlib.Omega.{arith}
 use lib.Dec.{eqb, eqb·suc-zero}
 use borrow.Author.Tests.{eq-eqb, ne-eqb, lt-ltb, le-ltb}
@@ -85,11 +85,21 @@ module _ (m : Mode) (a b : ℕ) (f : Row) where
   stretch-bound h =
       elim m [ diamond ↦ greatest-within (b - a) _ 2 (λ i l. h (a + i) (omega arith)) | box ↦ least-bound (b - a) _ ]
 
+-- What is before the greater of two is before both.
+min-of-max : (u v w : ℕ) → max (min u v) (min u w) ≡ min u (max v w)
+min-of-max u v w = elim (le-or-lt v w) [
+  | inl l ↦ rw (max-eq-right l) (max-eq-right (smaller v w l))
+  | inr l ↦ let h : w ≤ v = omega arith in rw (max-eq-left h) (max-eq-left (smaller w v h))
+]
+  where
+    smaller : (x y : ℕ) → x ≤ y → min u x ≤ min u y
+    smaller x y l = le-min (min-le-left u x) (le-trans (min-le-right u x) l)
+
 -- A test before each instant is one before all.
 greatest-gated : (u : ℕ) (n : ℕ) (f : Row) → greatest n (λ i. min u (f i)) ≡ min u (greatest n f)
 unfolding greatest
 greatest-gated u zero f = omega arith
-greatest-gated u (suc n) f = omega (arith, greatest-gated u n f)
+greatest-gated u (suc n) f = rw (greatest-gated u n f) (min-of-max u (greatest n f) (f n))
 
 pub stretch-gated : (u a b : ℕ) (f h : Row) → ((j : ℕ) → a ≤ j → j < b → h j ≡ min u (f j))
     → greatestIn a b h ≡ min u (greatestIn a b f)

@@ -4,7 +4,7 @@
 use Prim.Native.Nat.{ℕ, zero, suc, _≤_, _<_, min, max}
 use mathlib.Core.Path.{_≡_}
 use mathlib.Core.Logic.{_↔_, Iff·trans, inl, inr}
-use native.Mathlib.Nat.{le-refl, le-trans, le-antisymm}
+use native.Mathlib.Nat.{le-refl, le-trans, le-antisymm, le-min, min-le-left, min-le-right}
 use native.Mathlib.Omega.{arith}
 use Rattle.meaning.specs.Three.{imp, greatest}
 use Rattle.meaning.specs.Record.{Mode, diamond, box}
@@ -58,8 +58,20 @@ min-greatest L f a y h = le-above _ _ (λ v z b.
     let (i, l, d) = greatest-reached L f v z (omega arith) in
     omega (arith, h i l))
 
+-- The smallest of three, in other orders.
 swapped : (a b d y : ℕ) → min (min a b) d ≤ y → min (min a d) b ≤ y
 swapped a b d y h = omega arith
+
+grouped : (a b d y : ℕ) → min a (min b d) ≤ y ↔ min (min a b) d ≤ y
+grouped a b d y = (λ h. omega arith, λ h. omega arith)
+
+-- It is at most that of a and what the other two are at most.
+grouped-within : (a b d g y : ℕ) → min b d ≤ g → min a g ≤ y → min (min a b) d ≤ y
+grouped-within a b d g y l h = grouped a b d y .0 (le-trans (le-min (min-le-left a _) (le-trans (min-le-right a _) l)) h)
+
+-- Under a box y counts as 2 at most.
+two-most : (a y : ℕ) → min a (min 2 y) ≤ 2
+two-most a y = le-trans (min-le-right a _) (min-le-left 2 y)
 
 -- Up to the greatest of many: up to each.
 pub within-greatest : (m : Mode) (L : ℕ) (f : Row) (a x y : ℕ) →
@@ -84,8 +96,11 @@ within-joined m a u v y = elim m [ diamond ↦ omega arith | box ↦ least-of-tw
 -- A gate is within y if, up to its test, what is after it is.
 pub within-gate : (m : Mode) (a u v y : ℕ) → Within m a (gate m u v) y ↔ Within m (min a u) v y
 unfolding Within gate
-within-gate diamond a u v y = (omega arith, omega arith)
-within-gate box a u v y = (λ h. omega (arith, imp-elim _ u v h), λ h. imp-intro _ u v (omega arith) (omega arith))
+within-gate diamond a u v y = grouped a u v y
+within-gate box a u v y = (
+  λ h. swapped a (min 2 y) u v (imp-elim _ u v h),
+  λ h. imp-intro _ u v (two-most a y) (swapped a u (min 2 y) v h),
+)
 
 -- The edge is within everything.
 pub within-edge : (m : Mode) (a y : ℕ) → Within m a (edge m) y
@@ -97,12 +112,12 @@ pub within-row : (m : Mode) (L : ℕ) (p : Square) (c : Row) (k a y : ℕ) →
     Within m a (modalRow m L p c k) y ↔ ((j : ℕ) → j < L → Within m (min a (p k j)) (c j) y)
 unfolding Within modalRow diamondRow boxRow
 within-row diamond L p c k a y = (
-  λ h j l. omega (arith, greatest-member L (λ j. min (p k j) (c j)) j l),
-  λ h. min-greatest L _ a y (λ j l. omega (arith, h j l)),
+  λ h j l. grouped-within a (p k j) (c j) _ y (greatest-member L (λ j. min (p k j) (c j)) j l) h,
+  λ h. min-greatest L _ a y (λ j l. grouped a (p k j) (c j) y .1 (h j l)),
 )
 within-row box L p c k a y = (
-  λ h j l. omega (arith, imp-elim _ (p k j) (c j) (le-trans h (least-member L (λ j. imp (p k j) (c j)) j l))),
-  λ h. le-least L _ _ (omega arith) (λ j l. imp-intro _ (p k j) (c j) (omega arith) (omega (arith, h j l))),
+  λ h j l. swapped a (min 2 y) (p k j) (c j) (imp-elim _ (p k j) (c j) (le-trans h (least-member L (λ j. imp (p k j) (c j)) j l))),
+  λ h. le-least L _ _ (two-most a y) (λ j l. imp-intro _ (p k j) (c j) (two-most a y) (swapped a (p k j) (min 2 y) (c j) (h j l))),
 )
 
 -- ---- a number is the one that is within the same numbers
