@@ -7,6 +7,7 @@ use mathlib.Core.Bool.{Bool, true, false, cond, _&&_, true≢false}
 use mathlib.Core.Logic.{_⊎_, inl, inr}
 use mathlib.Core.List.{List, [], _∷_, _++_, append-assoc, append-nil}
 use mathlib.Core.Option.{Option, none, some}
+use native.Mathlib.Nat.{le-trans, le-max-left, le-max-right}
 use native.Mathlib.Omega.{arith}
 use lib.Dec.{eqb, leb}
 use lib.ListN.{length, getD, length-append}
@@ -262,6 +263,13 @@ unfolding readMode modeSign else sign then after digit
 mode-read diamond u = (refl, refl)
 mode-read box u = (refl, refl)
 
+-- Each of a node's two parts is smaller than it.
+first-smaller : (a b n : ℕ) → a + b + 1 ≤ suc n → a ≤ n
+first-smaller a b n l = omega arith
+
+second-smaller : (a b n : ℕ) → a + b + 1 ≤ suc n → b ≤ n
+second-smaller a b n l = omega arith
+
 mutual
   unfolding readForm readPath readAtom readJoin else sign then after spell spellPath moveSign forward forwardPath isAhead formAtoms pathAtoms formSize pathSize digit
 
@@ -273,7 +281,12 @@ mutual
   form-read (Form.modal m p f) (suc n) u a b l d =
       let (x, y) = and-holds (forwardPath p) (forward f) .0 a in
       let (g, h) = mode-read m (spell f ++ (41 ∷ u)) in
-      rw (reassoc (spellPath p) (modeSign m) (spell f) u, path-read p n _ x (omega arith) (omega arith) h, g, form-read f n (41 ∷ u) y (omega arith) (omega arith) refl)
+      rw (
+        reassoc (spellPath p) (modeSign m) (spell f) u,
+        path-read p n _ x (le-trans (le-max-left _ _) b) (first-smaller _ _ n l) h,
+        g,
+        form-read f n (41 ∷ u) y (le-trans (le-max-right (pathAtoms p) _) b) (second-smaller (pathSize p) _ n l) refl,
+      )
   form-read (Form.constant v) zero u a b l d = absurd (omega arith)
   form-read (Form.atom i) zero u a b l d = absurd (omega arith)
   form-read (Form.modal m p f) zero u a b l d = absurd (omega arith)
@@ -285,10 +298,18 @@ mutual
   path-read (Path.test f) (suc n) u a b l d = rw (form-read f n u a b (omega arith) d)
   path-read (Path.choice p q) (suc n) u a b l d =
       let (x, y) = and-holds (forwardPath p) (forwardPath q) .0 a in
-      rw (reassoc (spellPath p) choiceSign (spellPath q) u, path-read p n (43 ∷ spellPath q ++ (41 ∷ u)) x (omega arith) (omega arith) refl, path-read q n (41 ∷ u) y (omega arith) (omega arith) refl)
+      rw (
+        reassoc (spellPath p) choiceSign (spellPath q) u,
+        path-read p n (43 ∷ spellPath q ++ (41 ∷ u)) x (le-trans (le-max-left _ _) b) (first-smaller _ _ n l) refl,
+        path-read q n (41 ∷ u) y (le-trans (le-max-right (pathAtoms p) _) b) (second-smaller (pathSize p) _ n l) refl,
+      )
   path-read (Path.sequence p q) (suc n) u a b l d =
       let (x, y) = and-holds (forwardPath p) (forwardPath q) .0 a in
-      rw (reassoc (spellPath p) sequenceSign (spellPath q) u, path-read p n (59 ∷ spellPath q ++ (41 ∷ u)) x (omega arith) (omega arith) refl, path-read q n (41 ∷ u) y (omega arith) (omega arith) refl)
+      rw (
+        reassoc (spellPath p) sequenceSign (spellPath q) u,
+        path-read p n (59 ∷ spellPath q ++ (41 ∷ u)) x (le-trans (le-max-left _ _) b) (first-smaller _ _ n l) refl,
+        path-read q n (41 ∷ u) y (le-trans (le-max-right (pathAtoms p) _) b) (second-smaller (pathSize p) _ n l) refl,
+      )
   path-read (Path.star p) (suc n) u a b l d = rw (path-read p n u a b (omega arith) d)
   path-read (Path.move w) zero u a b l d = absurd (omega arith)
   path-read (Path.test f) zero u a b l d = absurd (omega arith)
