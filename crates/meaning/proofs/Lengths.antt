@@ -4,16 +4,16 @@ use Prim.Native.Nat.{ℕ, zero, suc, pred, _+_, _*_, _/_, _%_, _<_, _≤_}
 use Prim.Native.Char.{code}
 use mathlib.Core.Path.{_≡_}
 use mathlib.Core.Bool.{true, false}
-use mathlib.Core.List.{List, [], _∷_, _++_}
+use mathlib.Core.List.{List, [], _∷_}
 use mathlib.Core.Logic.{inl, inr}
 use native.Mathlib.Nat.{le-trans, le-max-left, le-max-right}
 use native.Mathlib.Omega.{arith}
 use borrow.Author.Tests.{lt-ltb, le-ltb}
 use lib.ListN.{length, length-append}
-use Rattle.meaning.specs.Record.{core, count, Mode, diamond, box, ahead, back}
+use Rattle.meaning.specs.Record.{core, count, diamond, box, ahead, back}
 use Rattle.meaning.specs.Formula.{Form, Path, formAtoms, pathAtoms}
 use Rattle.meaning.specs.Tree.{formAt, formSize, pathSize}
-use Rattle.meaning.specs.Text.{decimal, decimalIn, falseSign, choiceSign, sequenceSign, opening, closing, modeSign, moveSign, spell, spellPath, wholeText, textAtoms, mostText}
+use Rattle.meaning.specs.Text.{decimal, decimalIn, falseSign, modeSign, moveSign, spell, spellPath, wholeText, textAtoms, mostText}
 use Rattle.meaning.specs.WellFormed.{WellFormed}
 use Rattle.meaning.proofs.Bounds.{le-or-lt}
 use Rattle.meaning.proofs.Atoms.{form-atoms}
@@ -45,40 +45,34 @@ decimal-long n l = elim (le-or-lt 10 n) [
 abbrev longestSign : ℕ
 longestSign = length falseSign
 
-abbrev brackets : ℕ
-brackets = length opening + length closing
-
--- Two parts in brackets with a sign between them, which is no longer than the longest with its brackets.
-bracketed-long : (x b y : List ℕ) (m n : ℕ) → length x ≤ longestSign * m → length y ≤ longestSign * n → length b + brackets ≤ longestSign
-    → length (opening ++ (x ++ (b ++ (y ++ closing)))) ≤ longestSign * (m + n + 1)
-bracketed-long x b y m n h l t = simp length-append (omega arith)
-
-mode-long : (m : Mode) → length (modeSign m) + brackets ≤ longestSign
-unfolding modeSign
-mode-long diamond = omega arith
-mode-long box = omega arith
-
 mutual
-  unfolding spell formSize formAtoms moveSign
+  unfolding spell formSize formAtoms modeSign moveSign
 
   pub spell-long : (F : Form) → formAtoms F ≤ textAtoms → length (spell F) ≤ longestSign * formSize F
   spell-long (Form.constant true) low = omega arith
   spell-long (Form.constant false) low = omega arith
   spell-long (Form.atom i) low = omega (arith, decimal-long i (omega arith))
-  spell-long (Form.modal m p f) low =
-      bracketed-long (spellPath p) (modeSign m) (spell f) _ _
-      (path-long p (le-trans (le-max-left _ _) low)) (spell-long f (le-trans (le-max-right (pathAtoms p) _) low)) (mode-long m)
+  spell-long (Form.modal diamond p f) low =
+      let first = path-long p (le-trans (le-max-left _ _) low) in
+      let second = spell-long f (le-trans (le-max-right (pathAtoms p) _) low) in
+      simp length-append (omega arith)
+  spell-long (Form.modal box p f) low =
+      let first = path-long p (le-trans (le-max-left _ _) low) in
+      let second = spell-long f (le-trans (le-max-right (pathAtoms p) _) low) in
+      simp length-append (omega arith)
 
   pub path-long : (P : Path) → pathAtoms P ≤ textAtoms → length (spellPath P) ≤ longestSign * pathSize P
   path-long (Path.move ahead) low = omega arith
   path-long (Path.move back) low = omega arith
   path-long (Path.test f) low = simp length-append (omega (arith, spell-long f low))
   path-long (Path.choice p q) low =
-      bracketed-long (spellPath p) choiceSign (spellPath q) _ _
-      (path-long p (le-trans (le-max-left _ _) low)) (path-long q (le-trans (le-max-right (pathAtoms p) _) low)) (omega arith)
+      let first = path-long p (le-trans (le-max-left _ _) low) in
+      let second = path-long q (le-trans (le-max-right (pathAtoms p) _) low) in
+      simp length-append (omega arith)
   path-long (Path.sequence p q) low =
-      bracketed-long (spellPath p) sequenceSign (spellPath q) _ _
-      (path-long p (le-trans (le-max-left _ _) low)) (path-long q (le-trans (le-max-right (pathAtoms p) _) low)) (omega arith)
+      let first = path-long p (le-trans (le-max-left _ _) low) in
+      let second = path-long q (le-trans (le-max-right (pathAtoms p) _) low) in
+      simp length-append (omega arith)
   path-long (Path.star p) low = simp length-append (omega (arith, path-long p low))
 
 pub whole-fits : {s : List ℕ} {A : ℕ} → WellFormed core s A → length (wholeText s) ≤ mostText
