@@ -1,6 +1,6 @@
 -- What the expander answers. Its grounds are those of the records, and after them 14 and 10, which look at the size of the whole tree: so
 -- a refusal of the records is the answer, and where there is none they are a tree and its size decides.
-use Prim.Native.Nat.{ℕ, pred, _*_, _<_, _≤_, min}
+use Prim.Native.Nat.{ℕ, pred, _*_, _≤_, min}
 use mathlib.Core.Path.{_≡_, sym, ap, _∙_}
 use mathlib.Core.Logic.{inl, inr}
 use mathlib.Core.List.{List}

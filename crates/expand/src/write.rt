@@ -2,10 +2,8 @@
 // Records beyond the 255th are left out, and the number after them is MANY, however many they are.
 ghost use mathlib.Core.Path.{_≡_};
 ghost use mathlib.Core.Bool.{true};
-ghost use Prim.Native.Nat.{_*_, _<_, _≤_};
-ghost use lib.ListN.{length, take};
-ghost use lib.Seq.{sets};
-ghost use Rattle.meaning.specs.Record.{recordSize, mostRecords, kindAt};
+ghost use Prim.Native.Nat.{_<_, _≤_};
+ghost use Rattle.meaning.specs.Record.{kindAt};
 ghost use Rattle.expand.specs.Expanding.{Expandable, bytesAt, sizeAt, stepBytes, stepCount, fits, many, Wrote};
 use crate::steps;
 use records::layout;

@@ -1,11 +1,11 @@
 -- The atoms of a tree. In well-formed records every atom's number is below A, and so it is in the tree of each record: a node
 -- has the atoms of its children, and a shorthand's expansion those of its arguments.
-use Prim.Native.Nat.{ℕ, zero, suc, _+_, _≤_, _<_, max}
+use Prim.Native.Nat.{ℕ, zero, suc, _≤_, _<_, max}
 use mathlib.Core.List.{List}
 use native.Mathlib.Nat.{le-refl}
 use native.Mathlib.Omega.{arith}
 use Rattle.meaning.specs.Record.{Kind, Shorthand, columnsOf, argumentsOf, Language, Use, unused, atomNumber, child, useA, useB, count, kindAt}
-use Rattle.meaning.specs.Formula.{Form, Path, formAtoms, pathAtoms}
+use Rattle.meaning.specs.Formula.{formAtoms, pathAtoms}
 use Rattle.meaning.specs.Shorthand.{expansion}
 use Rattle.meaning.specs.Tree.{Tree, asForm, asPath, nodeOf, treeAt, formAt}
 use Rattle.meaning.specs.WellFormed.{Fits, WellFormed}

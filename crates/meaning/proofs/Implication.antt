@@ -21,10 +21,6 @@ imp-elim t u v h = elim (by-comparison u v) [ inl c ↦ omega arith | inr c ↦ 
 pub imp-intro : (t u v : ℕ) → t ≤ 2 → min t u ≤ v → t ≤ imp u v
 imp-intro t u v b h = elim (by-comparison u v) [ inl c ↦ omega arith | inr c ↦ omega arith ]
 
--- Both together.
-pub imp-adjoint : (t u v : ℕ) → t ≤ 2 → (t ≤ imp u v) ↔ (min t u ≤ v)
-imp-adjoint t u v b = (imp-elim t u v, imp-intro t u v b)
-
 -- An implication of a value is a value.
 pub imp-bound : (u v : ℕ) → v ≤ 2 → imp u v ≤ 2
 imp-bound u v b = elim (by-comparison u v) [ inl c ↦ omega arith | inr c ↦ omega arith ]

@@ -7,7 +7,7 @@ use mathlib.Core.List.{List}
 use native.Mathlib.Omega.{arith}
 use lib.ListN.{length, getD, length-append, List·getD-append}
 use lib.Seq.{getD-at}
-use Rattle.meaning.specs.Record.{Kind, columnsOf, argumentsOf, Shorthand, Use, unused, atomNumber, child, useA, useB, Sort, sortOf}
+use Rattle.meaning.specs.Record.{Kind, columnsOf, argumentsOf, Shorthand, Use, unused, atomNumber, child, useA, useB, Sort}
 use Rattle.meaning.specs.Record.{Language, count, kindAt, fieldA, fieldB}
 use Rattle.meaning.specs.Shorthand.{expansion}
 use Rattle.meaning.specs.Tree.{Tree, noTree, asForm, asPath, nodeOf, trees, treeAt, formAt, pathAt}
@@ -92,17 +92,3 @@ either-sort Sort.path = inr refl
 -- and not both.
 pub differs : {σ : Sort} → σ ≡ Sort.formula → σ ≡ Sort.path → ⊥
 differs e d = let z : _≡_ {A = ℕ} 0 1 = cc in omega arith
-
--- A tree taken as one of the sort.
-abbrev pub asSort : Sort → Tree → Tree
-asSort Sort.formula t = Tree.formula (asForm t)
-asSort Sort.path t = Tree.path (asPath t)
-
--- A node is of its kind's sort.
-node-sort : (a b : ℕ) (t : ℕ → Tree) (K : Kind) → nodeOf K a b t ≡ asSort (sortOf K) (nodeOf K a b t)
-unfolding nodeOf columnsOf asForm asPath
-node-sort a b t = by-kind _ (λ v. refl) refl (λ m. refl) (λ w. refl) refl refl refl refl (λ σ. refl) refl
-
--- So a record's tree is formula (formAt s r) or path (pathAt s r), by its sort.
-pub tree-sort : (s : List ℕ) (r : ℕ) (σ : Sort) → sortOf (kindAt s r) ≡ σ → treeAt s r ≡ asSort σ (treeAt s r)
-tree-sort s r σ e = rw (← e, tree-node s r) (node-sort _ _ _ _)

@@ -68,10 +68,6 @@ unfolding checkGrounds ground1 ground8 ground18
 back-numbered s A =
     (omega arith, (omega arith, numbered-append (treeGrounds core s A) _ (tree-numbered core s A) (numbered-each _ _ (λ r. omega arith))))
 
-pub form-numbered : (t : List ℕ) (A : ℕ) → Numbered (formGrounds t A)
-unfolding ground8 ground14-text ground19 ground14
-form-numbered t A = (omega arith, (omega arith, (omega arith, (omega arith, tt))))
-
 -- ---- no back step, in records and in their tree
 -- A tree of either sort.
 abbrev Onward : Tree → Type 0

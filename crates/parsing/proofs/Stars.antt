@@ -1,7 +1,7 @@
 -- Stars one around the other: their records behind those of the path in them are the whole path's records.
 use Prim.Native.Char.{code}
 use Prim.Native.Nat.{ℕ, zero, suc, pred, _+_, _*_, _-_, _≤_, _<_}
-use mathlib.Core.Path.{_≡_, refl, sym, _∙_}
+use mathlib.Core.Path.{_≡_, refl, sym}
 use mathlib.Core.List.{List}
 use mathlib.Core.Logic.{inl, inr}
 use native.Mathlib.Nat.{le-refl, add-zero}

@@ -1,6 +1,6 @@
 -- Putting a sign byte by byte: its lowest byte is its first character, and the rest of the number has the others.
 use Prim.Native.Nat.{ℕ, zero, suc, _+_, _*_, _/_, _%_, _<_, _≤_}
-use mathlib.Core.Path.{_≡_, refl, ap, _∙_}
+use mathlib.Core.Path.{_≡_, refl, ap}
 use mathlib.Core.Bool.{Bool, true, _&&_}
 use mathlib.Core.List.{List, [], _∷_, _++_, append-assoc, append-nil}
 use mathlib.Core.Logic.{inl, inr}
@@ -11,7 +11,6 @@ use borrow.Author.Tests.{le-leb, lt-leb, ltb-true}
 use lib.Dec.{ltb}
 use Rattle.meaning.proofs.Bounds.{le-or-lt}
 use Rattle.meaning.proofs.Fails.{and-holds}
-use Rattle.meaning.proofs.Stores.{sets-append}
 use Rattle.copying.specs.Appended.{Appended}
 use Rattle.copying.proofs.Appending.{append-one, append-more}
 use Rattle.spelling.specs.Spelling.{byte, bytesIn, signBytes}

@@ -5,7 +5,6 @@
 --   Spellable s           s is the records of a formula in core kinds
 --   Spelling s r at       r is one of them, and its text fits from the place `at` on
 use Prim.Native.Nat.{ℕ, zero, suc, _+_, _/_, _%_, _<_, _≤_}
-use mathlib.Core.Path.{_≡_}
 use mathlib.Core.Bool.{true, false, cond}
 use mathlib.Core.List.{List, [], _∷_, _++_}
 use lib.Dec.{leb}

@@ -1,9 +1,8 @@
 // Reading text as a formula's records.
 ghost use mathlib.Core.Path.{_≡_};
-ghost use mathlib.Core.List.{_++_};
 ghost use Prim.Native.Nat.{_*_, _<_, _≤_};
 ghost use lib.ListN.{length};
-ghost use Rattle.meaning.specs.Record.{recordSize, mostRecords, count};
+ghost use Rattle.meaning.specs.Record.{mostRecords, count};
 ghost use Rattle.meaning.specs.Text.{formIn};
 ghost use Rattle.meaning.specs.Refusal.{firstOf, ground5, atomGrounds, recordsGrounds};
 ghost use Rattle.meaning.specs.Service.{readAnswer, readAfter};

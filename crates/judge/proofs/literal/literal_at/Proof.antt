@@ -1,6 +1,5 @@
 -- `literal::literal_at` meets its contract: the marks say which instant is looked at, and whether the value is negated.
 use mathlib.Core.Path.{sym, _∙_}
-use native.Mathlib.Omega.{arith}
 use borrow.Author.Needs.{needs}
 use Rattle.meaning.specs.Rule.{isPrevious, plain, literal}
 use Rattle.judge.proofs.Words.{spoken-row}
