@@ -1,6 +1,5 @@
 -- Reading by the first byte. No two kinds of formula begin alike, nor two kinds of path: so behind that byte one reading is left, and it
 -- ends where the whole does.
-use native.Mathlib.Nat.{le-refl}
 use Prim.Native.Char.{code}
 use Prim.Native.Nat.{ℕ, zero, suc, _+_, _-_, _≤_, _<_}
 use mathlib.Core.Path.{_≡_, refl, sym, _∙_}
@@ -14,7 +13,7 @@ use Rattle.meaning.specs.Record.{ahead}
 use Rattle.meaning.specs.Formula.{Form, Path}
 use Rattle.meaning.specs.Text.{mostText, then, else, after, sign, closing, ascii, readAtom, readNumber, readMode, readJoin, readForm, readPath}
 use Rattle.parsing.specs.Places.{outside, afterHash, textAt, rest, Ends, Deep, Stars}
-use Rattle.parsing.proofs.Places.{rest-then, rest-sign, rest-signs, else-none, here, byte-in, byte-here, first-byte, ends-then, ends-none}
+use Rattle.parsing.proofs.Places.{rest-then, rest-sign, rest-signs, else-none, here, byte-in, byte-here, first-byte, ends-then, ends-none, by-stars}
 
 -- A reading whose parts are kept, and one of two parts with a sign between them, in brackets.
 rest-kept : {A B : Type 0} (r : Option (A × List ℕ)) (k : A → B) → rest (then r (λ (x, v). some (k x, v))) ≡ rest r
@@ -128,8 +127,4 @@ module _ (t : List ℕ) (at b : ℕ) (asked : (length t ≤ mostText) × (at ≤
 
 -- What is read behind stars is read with them.
 pub behind-stars : (t : List ℕ) {at from e : ℕ} → Stars t at from → Deep readPath t from e → Deep readPath t at e
-behind-stars t {at} {from} {e} s d = go (from - at) at (omega (arith, s .onward)) (s .stars)
-  where
-    go : (k at : ℕ) → at + k ≡ from → ((i : ℕ) → at ≤ i → i < from → getD t i 0 ≡ code "*") → Deep readPath t at e
-    go zero at same stars = let here : at ≡ from = omega arith in rw here d
-    go (suc k) at same stars = path-star (sym (stars at (le-refl at) (omega arith))) refl (go k (at + 1) (omega arith) (λ i l h. stars i (omega arith) h))
+behind-stars t {e = e} s d = by-stars (λ i. Deep readPath t i e) s d (λ i star l d. path-star (sym star) refl d)

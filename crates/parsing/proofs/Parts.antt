@@ -171,11 +171,11 @@ constant-passed t at s u h reads = ⊎-elim
 
 -- What stands behind #: the first byte tells false from true.
 pub constant-stands : (t : List ℕ) (at : ℕ) (c : Bool) → eqb (getD t (at + 1) 0) (code "f") ≡ c → (s u : List ℕ) → textAt t (at + 1) ≡ some s → afterHash s ≡ some u
-    → (textAt t (at + cond c (length falseSign) (length trueSign)) ≡ some u) × (cond c (numberOf (constant false)) (numberOf (constant true)) ≡ constantKind s) × (_≡_ {A = ℕ} 0 0)
+    → (textAt t (at + cond c (length falseSign) (length trueSign)) ≡ some u) × (cond c (numberOf (constant false)) (numberOf (constant true)) ≡ constantKind s)
 constant-stands t at c e s u h reads =
     let first : getD s 0 0 ≡ getD t (at + 1) 0 = sym (byte-of t (at + 1) s h 0) ∙ rw add-zero in
     let same : at + 1 + cond c (length (ascii "false")) (length (ascii "true")) ≡ at + cond c (length falseSign) (length trueSign) = sizes c in
-    (rw (first, e, same) at (constant-passed t (at + 1) s u h reads), rw (first, e), refl)
+    (rw (first, e, same) at (constant-passed t (at + 1) s u h reads), rw (first, e))
   where
     sizes : (c : Bool) → at + 1 + cond c (length (ascii "false")) (length (ascii "true")) ≡ at + cond c (length falseSign) (length trueSign)
     sizes true = omega arith

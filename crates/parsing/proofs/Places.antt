@@ -1,18 +1,19 @@
 -- Places of a text. Where a reading ends, what follows it begins: so readings one after the other end where the last of them does.
-use Prim.Native.Nat.{ℕ, _+_, _≤_, _<_}
+use Prim.Native.Char.{code}
+use Prim.Native.Nat.{ℕ, zero, suc, _+_, _-_, _≤_, _<_}
 use mathlib.Core.Path.{_≡_, refl, sym, ap, _∙_}
 use mathlib.Core.Bool.{Bool, true, false, cond}
 use mathlib.Core.List.{List, [], _∷_, _++_}
 use mathlib.Core.Option.{Option, none, some}
 use native.Mathlib.Omega.{arith}
-use native.Mathlib.Nat.{add-zero}
+use native.Mathlib.Nat.{add-zero, le-refl}
 use native.Mathlib.Numerals.{add-one}
 use lib.Dec.{leb, eqb}
 use lib.ListN.{length, getD, take, drop, drop-of-length-le, List·getD-eq-default}
 use lib.Seq.{drop-cons, take-suc, take-all, getD-drop}
 use borrow.Author.Tests.{le-leb, lt-leb, leb-true, leb-false, eq-eqb, ne-eqb}
 use Rattle.meaning.specs.Text.{mostText, then, else, after}
-use Rattle.parsing.specs.Places.{outside, textAt, rest, Ends}
+use Rattle.parsing.specs.Places.{outside, textAt, rest, Ends, Stars}
 
 -- ---- what is read, or not
 pub no-read : {A B : Type 0} {x : A} → none ≡ some x → B
@@ -184,3 +185,11 @@ module _ (t : List ℕ) where
     pub byte-left : at < length t → (getD t at 0 ≡ b → ⊥) → Ends t (after (b ∷ [])) at outside
     unfolding after
     byte-left h e = ends-none (after (b ∷ [])) at asked (rw (drop-cons t at 0 h, ne-eqb (getD t at 0) b e))
+
+-- What holds at the end of a run of stars, and at a star if it does behind it, holds at the run's start.
+pub by-stars : {t : List ℕ} {at from : ℕ} (P : ℕ → Type 0) → Stars t at from → P from → ((i : ℕ) → getD t i 0 ≡ code "*" → i < from → P (i + 1) → P i) → P at
+by-stars {t} {at} {from} P s end step = go (from - at) at (le-refl at) (omega (arith, s .onward))
+  where
+    go : (k i : ℕ) → at ≤ i → i + k ≡ from → P i
+    go zero i l same = let here : i ≡ from = omega arith in rw here end
+    go (suc k) i l same = step i (s .stars i l (omega arith)) (omega arith) (go k (i + 1) (omega arith) (omega arith))

@@ -4,7 +4,7 @@ use Prim.Native.Nat.{ℕ, zero, suc, pred, _+_, _*_, _-_, _≤_, _<_}
 use mathlib.Core.Path.{_≡_, refl, sym}
 use mathlib.Core.List.{List}
 use mathlib.Core.Logic.{inl, inr}
-use native.Mathlib.Nat.{le-refl, add-zero}
+use native.Mathlib.Nat.{add-zero}
 use native.Mathlib.Numerals.{add-one}
 use native.Mathlib.Omega.{arith}
 use lib.ListN.{length, getD, length-append}
@@ -13,6 +13,7 @@ use Rattle.meaning.specs.Record.{recordSize, mostRecords, bytesOf, Kind, number
 use Rattle.meaning.proofs.Bounds.{le-or-lt}
 use Rattle.parsing.specs.Places.{Stars}
 use Rattle.parsing.specs.Writing.{paths, starsFrom, Readable, Wrote}
+use Rattle.parsing.proofs.Places.{by-stars}
 use Rattle.parsing.proofs.Parts.{star-part}
 use Rattle.parsing.proofs.Writing.{path-long, run-more, one-asks, one-wrote}
 
@@ -38,27 +39,20 @@ stars-onward {at = at} {from} s h = elim (le-or-lt from at) [
 
 module _ (t : List ℕ) {at from n : ℕ} (s : Stars t at from) where
   pub stars-ask : Readable paths t at n → Readable paths t from n
-  stars-ask r = go (from - at) at (omega (arith, s .onward)) (s .stars) r
-    where
-      go : (k at : ℕ) → at + k ≡ from → ((i : ℕ) → at ≤ i → i < from → getD t i 0 ≡ code "*") → Readable paths t at n → Readable paths t from n
-      go zero at same stars r = let here : at ≡ from = omega arith in rw here at r
-      go (suc k) at same stars r =
-          go k (at + 1) (omega arith) (λ i l h. stars i (omega arith) h)
-          (one-asks paths t at (code "*") (sym (stars at (le-refl at) (omega arith))) path-long (star-part (code "*") refl) r)
+  stars-ask = by-stars (λ i. Readable paths t i n → Readable paths t from n) s (λ r. r)
+      (λ i star l behind r. behind (one-asks paths t i (code "*") (sym star) path-long (star-part (code "*") refl) r))
 
   pub stars-wrote : {e m m′ : ℕ} {old mid new : List ℕ} → Wrote paths t from n old e m mid → m′ ≡ m + (from - at)
       → new ≡ sets mid (recordSize * m) (starsFrom (from - at) m) → Wrote paths t at n old e m′ new
   unfolding starsFrom
-  stars-wrote {e} {m} {old = old} {mid} w count stores = rw (count, stores) (go (from - at) at (omega (arith, s .onward)) (s .stars))
-    where
-      go : (k at : ℕ) → at + k ≡ from → ((i : ℕ) → at ≤ i → i < from → getD t i 0 ≡ code "*")
-          → Wrote paths t at n old e (m + k) (sets mid (recordSize * m) (starsFrom k m))
-      go zero at same stars = let here : at ≡ from = omega arith in rw (here, add-zero) w
-      go (suc k) at same stars =
-          let next : m + suc k ≡ m + k + 1 = omega arith in
-          let all = rw add-one at (stars-more mid k m refl refl) in
-          rw next (rw all at (one-wrote paths t at (code "*") (sym (stars at (le-refl at) (omega arith))) path-long (star-part (code "*") refl)
-          (go k (at + 1) (omega arith) (λ i l h. stars i (omega arith) h)) (refl, refl, refl)))
+  stars-wrote {e} {m} {old = old} {mid} w count stores =
+      let none : from - from ≡ 0 = omega arith in
+      rw (count, stores) (by-stars (λ i. Wrote paths t i n old e (m + (from - i)) (sets mid (recordSize * m) (starsFrom (from - i) m))) s (rw (none, add-zero) w)
+      (λ i star l behind.
+      let more : from - i ≡ from - (i + 1) + 1 = omega arith in
+      let next : m + (from - (i + 1) + 1) ≡ m + (from - (i + 1)) + 1 = omega arith in
+      rw (more, next) (rw (stars-more mid (from - (i + 1)) m refl refl) at
+      (one-wrote paths t i (code "*") (sym star) path-long (star-part (code "*") refl) behind (refl, refl, refl)))))
 
   pub stars-room : {e m : ℕ} {old mid : List ℕ} → Readable paths t at n → Wrote paths t from n old e m mid → m + (from - at) ≤ mostRecords
   stars-room r w = omega (arith, r .few, stars-wrote w refl refl .whole _ _ _ _ (r .here) (r .reads) .1)
