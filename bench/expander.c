@@ -77,17 +77,11 @@ static size_t put_or(struct writer *w, size_t a, size_t b)
     return put(w, PASTUREQUILL_DIAMOND, path, end);
 }
 
-static size_t put_until(struct writer *w, size_t a, size_t b)
+/* Until and since: as long as a holds, moves go on to b. */
+static size_t put_held(struct writer *w, uint8_t move, size_t a, size_t b)
 {
-    size_t tested = put_test(w, a), on = put(w, PASTUREQUILL_STEP, 0, 0);
+    size_t tested = put_test(w, a), on = put(w, move, 0, 0);
     size_t path = put_star(w, put(w, PASTUREQUILL_SEQUENCE, tested, on));
-    return put_over(w, PASTUREQUILL_DIAMOND, path, b);
-}
-
-static size_t put_since(struct writer *w, size_t a, size_t b)
-{
-    size_t back = put(w, PASTUREQUILL_BACK, 0, 0), tested = put_test(w, a);
-    size_t path = put_star(w, put(w, PASTUREQUILL_SEQUENCE, back, tested));
     return put_over(w, PASTUREQUILL_DIAMOND, path, b);
 }
 
@@ -134,9 +128,9 @@ static size_t put_tree(struct writer *w, size_t r)
     case PASTUREQUILL_SO_FAR:
         return put_along(w, PASTUREQUILL_BOX, PASTUREQUILL_BACK, a);
     case PASTUREQUILL_UNTIL:
-        return put_until(w, a, b);
+        return put_held(w, PASTUREQUILL_STEP, a, b);
     case PASTUREQUILL_SINCE:
-        return put_since(w, a, b);
+        return put_held(w, PASTUREQUILL_BACK, a, b);
     default: /* false, true, an atom, a step, a back step */
         return put(w, kind, a, 0);
     }

@@ -39,7 +39,7 @@ extern "C" {
 #endif
 
 /* The number of the last change request that is in this edition. */
-enum { PASTUREQUILL_EDITION = 1 };
+enum { PASTUREQUILL_EDITION = 2 };
 
 /* ---- a record's bytes: where its kind is, its zero byte, and the low bytes of its fields, whose high bytes follow */
 enum { PASTUREQUILL_KIND = 0, PASTUREQUILL_ZERO = 1, PASTUREQUILL_FIELD_A = 2, PASTUREQUILL_FIELD_B = 4 };
@@ -123,7 +123,7 @@ uint8_t pasturequill_check(const uint8_t *records, size_t records_size, uint64_t
  * Writes shorthands out, so that the other services take the formula: not F is [F?]false; F and G <F?>G; F or G
  * <F? + G?>true; F implies G [F?]G; final [step]false; initial [back]false; next <step>F, weak next [step]F, previous
  * <back>F, weak previous [back]F; eventually <step*>F, always [step*]F, once <back*>F, so far [back*]F; F until G
- * <(F? ; step)*>G; F since G <(back ; F?)*>G. */
+ * <(F? ; step)*>G; F since G <(F? ; back)*>G. */
 typedef struct {
     uint8_t refusal; /* 0, or the number of the first refusal that applies */
     uint64_t count;  /* how many were written: records by expand and read_text, bytes by write_text, rules by

@@ -41,7 +41,7 @@ fn core(formula: &Formula, r: usize) -> Core {
         ONCE => some(star(leaf(BACK)), a()),
         SO_FAR => all(star(leaf(BACK)), a()),
         UNTIL => some(star(two(SEQUENCE, test(a()), leaf(STEP))), b()),
-        SINCE => some(star(two(SEQUENCE, leaf(BACK), test(a()))), b()),
+        SINCE => some(star(two(SEQUENCE, test(a()), leaf(BACK))), b()),
         _ => unreachable!("an accepted record has a kind of the core or a shorthand's"),
     }
 }

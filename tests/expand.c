@@ -1,6 +1,7 @@
 /* pasturequill_expand over tables of cases, over every shorthand with each fault, and around the greatest number of
  * records. Each input is handed over at both edges of memory that may not be touched, the records in memory that may
- * only be read, and the output with and without room to spare. What is written is checked, and expanded once more. */
+ * only be read, and the output with and without room to spare. What is written is checked, and expanded once more; a
+ * since is valued too. */
 #define TEST_NAME "expand"
 #define SERVICE pasturequill_expand
 #define ELEMENT uint8_t
@@ -50,7 +51,7 @@ static const struct brief {
     {"once p", "<back*>p"},
     {"so far p", "[back*]p"},
     {"p until q", "<(p? ; step)*>q"},
-    {"p since q", "<(back ; p?)*>q"},
+    {"p since q", "<(p? ; back)*>q"},
 
     /* nested: the outer step or back step comes first */
     {"not not p", "[([p?]false)?]false"},
@@ -66,7 +67,8 @@ static const struct brief {
     {"p or (q or r)", "<p? + (<q? + r?>true)?>true"},
     {"(p until q) until r", "<((<(p? ; step)*>q)? ; step)*>r"},
     {"p until (q until r)", "<(p? ; step)*><(q? ; step)*>r"},
-    {"(p since q) since r", "<(back ; (<(back ; p?)*>q)?)*>r"},
+    {"(p since q) since r", "<((<(p? ; back)*>q)? ; back)*>r"},
+    {"p since (q since r)", "<(p? ; back)*><(q? ; back)*>r"},
     {"weak previous p implies weak next final", "[([back]p)?][step][step]false"},
 
     /* shorthands inside core records and core records inside shorthands */
@@ -92,7 +94,7 @@ static const struct expanded {
      LISTED({2, 0, 0, 0, 0, 0}, {7, 0, 0, 0, 0, 0}, {2, 0, 1, 0, 0, 0}, {7, 0, 2, 0, 0, 0}, {8, 0, 1, 0, 3, 0},
             {1, 0, 0, 0, 0, 0}, {3, 0, 4, 0, 5, 0})},
     {"p since q, in digits", RECORDS({2, 0, 0, 0, 0, 0}, {2, 0, 1, 0, 0, 0}, {47, 0, 0, 0, 1, 0}),
-     LISTED({6, 0, 0, 0, 0, 0}, {2, 0, 0, 0, 0, 0}, {7, 0, 1, 0, 0, 0}, {9, 0, 0, 0, 2, 0}, {10, 0, 3, 0, 0, 0},
+     LISTED({2, 0, 0, 0, 0, 0}, {7, 0, 0, 0, 0, 0}, {6, 0, 0, 0, 0, 0}, {9, 0, 1, 0, 2, 0}, {10, 0, 3, 0, 0, 0},
             {2, 0, 1, 0, 0, 0}, {3, 0, 4, 0, 5, 0})},
 
     /* arguments in the other order: field a's records come first, whatever their numbers */
@@ -100,9 +102,9 @@ static const struct expanded {
     {"q's record before p's, or", RECORDS(ATOM(1), ATOM(0), K(OR, 1, 0)), F("<p? + q?>true")},
     {"q's record before p's, implies", RECORDS(ATOM(1), ATOM(0), K(IMPLIES, 1, 0)), F("[p?]q")},
     {"q's record before p's, until", RECORDS(ATOM(1), ATOM(0), K(UNTIL, 1, 0)), F("<(p? ; step)*>q")},
-    {"q's record before p's, since", RECORDS(ATOM(1), ATOM(0), K(SINCE, 1, 0)), F("<(back ; p?)*>q")},
+    {"q's record before p's, since", RECORDS(ATOM(1), ATOM(0), K(SINCE, 1, 0)), F("<(p? ; back)*>q")},
     {"not p since initial", RECORDS(K(INITIAL, 0, 0), ATOM(0), K(NOT, 1, 0), K(SINCE, 2, 0)),
-     F("<(back ; ([p?]false)?)*>[back]false")},
+     F("<(([p?]false)? ; back)*>[back]false")},
     {"all leaves first", RECORDS(ATOM(2), ATOM(1), ATOM(0), K(NOT, 1, 0), K(NEXT, 0, 0), K(UNTIL, 2, 3), K(OR, 5, 4)),
      F("<(<(p? ; step)*>[q?]false)? + (<step>r)?>true")},
     {"two branches interleaved",
@@ -322,6 +324,63 @@ static void no_addresses(void)
     expect_no_address("no address for no room, and too long", bytes_of(&long_one), 0, PASTUREQUILL_TOO_LONG);
 }
 
+/* ---- what a since is worth */
+enum { P, Q, ATOMS, SINCE_INSTANTS = 4, CELLS = ATOMS * SINCE_INSTANTS, VALUES = 3 };
+
+/* The value of "p since q" at instant k by its words: q at some instant up to k, and p at every later one up to k. */
+static uint8_t since_at(const uint8_t *cells, size_t k)
+{
+    uint8_t best = 0, held = 2;
+    for (size_t j = k + 1; j-- > 0;) {
+        uint8_t p = cells[ATOMS * j + P], q = cells[ATOMS * j + Q], here = q < held ? q : held;
+        best = here > best ? here : best;
+        held = p < held ? p : held;
+    }
+    return best;
+}
+
+/* Expands the formula, values what comes out, and expects these values at the instants. */
+static void expect_values(const char *text, const uint8_t *cells, size_t instants, const uint8_t *due)
+{
+    struct formula f = written("pq", text);
+    uint8_t core[MOST_BYTES], table[MOST_RECORDS * SINCE_INSTANTS];
+    size_t size = RECORD_SIZE * (size_t)pasturequill_expand(f.records, size_of(&f), ATOMS, core, sizeof core).count;
+    uint8_t refusal =
+        pasturequill_value(core, size, ATOMS, instants, cells, ATOMS * instants, table, sizeof table).refusal;
+    count(refusal == PASTUREQUILL_ACCEPTED, text, "refusal of its value", refusal, PASTUREQUILL_ACCEPTED);
+    if (refusal != PASTUREQUILL_ACCEPTED)
+        return;
+    const uint8_t *row = table + (size / RECORD_SIZE - 1) * instants;
+    for (size_t k = 0; k < instants; k++)
+        count(row[k] == due[k], text, "value", row[k], due[k]);
+}
+
+/* Each trace of p and q with so many instants: its cells are the digits of its number. */
+static void every_since(size_t instants)
+{
+    size_t traces = 1;
+    for (size_t i = 0; i < ATOMS * instants; i++)
+        traces *= VALUES;
+    for (size_t trace = 0; trace < traces; trace++) {
+        uint8_t cells[CELLS], due[SINCE_INSTANTS];
+        for (size_t i = 0, digits = trace; i < ATOMS * instants; i++, digits /= VALUES)
+            cells[i] = (uint8_t)(digits % VALUES);
+        for (size_t k = 0; k < instants; k++)
+            due[k] = since_at(cells, k);
+        expect_values("p since q", cells, instants, due);
+    }
+}
+
+static void sinces(void)
+{
+    /* q, and from then on p: kept at both instants. Stepping back first asks for p where only q is. */
+    static const uint8_t sample[] = {0, 2, 2, 0}, kept[] = {2, 2}, thrown_away[] = {2, 0};
+    expect_values("p since q", sample, 2, kept);
+    expect_values("<(back ; p?)*>q", sample, 2, thrown_away);
+    for (size_t instants = 1; instants <= SINCE_INSTANTS; instants++)
+        every_since(instants);
+}
+
 int main(void)
 {
     for (const struct brief *v = briefs; v < END(briefs); v++) {
@@ -347,5 +406,6 @@ int main(void)
     most_records_in();
     far_too_long();
     no_addresses();
+    sinces();
     return counts_told();
 }

@@ -56,7 +56,7 @@ pub fn row_of(kind: u8) -> u64
         kind::ONCE => 0x01_03_3A_1A_26,
         kind::SO_FAR => 0x01_04_3A_1A_26,
         kind::UNTIL => 0x01_03_3B_1A_09_25_17_3A,
-        kind::SINCE => 0x01_03_3B_1A_09_17_3A_26,
+        kind::SINCE => 0x01_03_3B_1A_09_26_17_3A,
         _ => DONE, // no kind has another number
     }
 }

@@ -1,8 +1,8 @@
 -- Rows of moves, and of stars whose body leads strictly one way. A move looks at the instant beside, and gives the edge where there is none.
 -- The row of a star is the only one that solves its equation: at each instant the continuation, joined with one pass and then the row. Over a
 -- move, the stretch from the instant at hand to the end of the trace solves it: a stretch is its first instant and the rest, or its last
--- instant and those before. Until at k is G there, or F there and until at the next instant; since at k is G there, or F and since at the
--- previous instant. What a later instant adds is after the same test of F in all of them, so the test stands before their greatest.
+-- instant and those before. Until at k is G there, or F there and until at the next instant; since at k is G there, or F there and since
+-- at the previous instant. What a later instant adds is after the same test of F in all of them, so the test stands before their greatest.
 --   overIn m a b f          the greatest of f over the instants a .. b - 1 under a diamond, the least under a box
 --   shifted w L f k else    f at the instant beside k in the way w; `else` where there is none
 use Prim.Native.Nat.{ℕ, zero, suc, _+_, _-_, _≤_, _<_, min, max, pred, zero-le}
@@ -187,25 +187,36 @@ module _ (L : ℕ) (cell : ℕ → ℕ → ℕ) (cells : (k i : ℕ) → k < L �
       star-row m w (move w) (turned w) refl F _ (stretch-solves w m (valueOf L cell F) (values-bound L cell cells F))
 
 -- ---- until and since
--- What instant j adds to until at k, and to since.
+-- What instant j adds to until at k, and to since at the instant before b.
 abbrev untilAt : Row → Row → ℕ → Row
 untilAt f g k j = min (g j) (leastIn k j f)
 
 abbrev sinceAt : Row → Row → ℕ → Row
-sinceAt f g k j = min (g j) (leastIn j k f)
+sinceAt f g b j = min (g j) (leastIn (j + 1) b f)
 
 -- Their rows.
 abbrev pub untilRow : ℕ → Row → Row → Row
 untilRow L f g k = greatestIn k L (untilAt f g k)
 
+abbrev sinceBefore : Row → Row → Row
+sinceBefore f g b = greatestIn 0 b (sinceAt f g b)
+
 abbrev pub sinceRow : Row → Row → Row
-sinceRow f g k = greatestIn 0 (k + 1) (sinceAt f g k)
+sinceRow f g k = sinceBefore f g (k + 1)
 
 module _ (L : ℕ) (f g : Row) (low : (k : ℕ) → k < L → g k ≤ 2) where
-  -- At k itself G alone counts.
-  at-hand : (k : ℕ) → k < L → min (g k) (leastIn k k f) ≡ g k
+  -- At k itself G alone counts: no instant is asked for F.
+  at-hand : (k a : ℕ) → k < L → min (g k) (leastIn a a f) ≡ g k
   unfolding edge
-  at-hand k l = rw (stretch-none box k k f (le-refl k)) (omega (arith, low k l))
+  at-hand k a l = rw (stretch-none box a a f (le-refl a)) (omega (arith, low k l))
+
+  -- One pass is F at hand, and then the move.
+  one-pass : (w : Way) (x : Row) → ((k : ℕ) → k < L → x k ≤ 2) → (k : ℕ) → k < L
+      → modalRow diamond L (sequenceSquare L (testSquare f) (moveSquare w)) x k ≡ min (f k) (modalRow diamond L (moveSquare w) x k)
+  unfolding gate
+  one-pass w x bound k l =
+      let beside : Row = modalRow diamond L (moveSquare w) x in
+      rw modal-sequence (modal-test diamond L f beside k l (modal-bound diamond L _ x k bound))
 
   -- ---- until
   until-bound : (k : ℕ) → k < L → untilRow L f g k ≤ 2
@@ -225,37 +236,31 @@ module _ (L : ℕ) (f g : Row) (low : (k : ℕ) → k < L → g k ≤ 2) where
       ∙ after-all L (untilRow L f g) k 0 (stretch-none diamond (k + 1) L (untilAt f g (k + 1)))
 
   pub until-solves : Solves diamond L (sequenceSquare L (testSquare f) (moveSquare ahead)) g (untilRow L f g)
-  unfolding joined gate
+  unfolding joined
   until-solves k l =
-      let next : Row = modalRow diamond L (moveSquare ahead) (untilRow L f g) in
-      let tested = modal-test diamond L f next k l (modal-bound diamond L _ (untilRow L f g) k until-bound) in
       stretch-first diamond k L (untilAt f g k) l
-      ∙ rw (at-hand k l, until-later k, modal-sequence, tested, until-ahead k l)
+      ∙ rw (at-hand k k l, until-later k, one-pass ahead (untilRow L f g) until-bound k l, until-ahead k l)
 
   -- ---- since
   since-bound : (k : ℕ) → k < L → sinceRow f g k ≤ 2
-  since-bound k l = stretch-bound diamond 0 (k + 1) (sinceAt f g k) (λ j b. omega (arith, low j (omega arith)))
+  since-bound k l = stretch-bound diamond 0 (k + 1) (sinceAt f g (k + 1)) (λ j b. omega (arith, low j (omega arith)))
 
-  -- The instants up to i, after F at i, as the next instant has them.
-  since-earlier : (i : ℕ) → greatestIn 0 (i + 1) (sinceAt f g (i + 1)) ≡ min (f i) (sinceRow f g i)
+  -- The instants before k, after F at k.
+  since-earlier : (k : ℕ) → greatestIn 0 k (sinceAt f g (k + 1)) ≡ min (f k) (sinceBefore f g k)
   unfolding joined
-  since-earlier i =
-      stretch-gated (f i) 0 (i + 1) (sinceAt f g i) (sinceAt f g (i + 1))
-      (λ j _ b. omega (arith, stretch-last box j i f (omega arith)))
+  since-earlier k =
+      stretch-gated (f k) 0 k (sinceAt f g k) (sinceAt f g (k + 1))
+      (λ j _ b. omega (arith, stretch-last box (j + 1) k f (omega arith)))
 
-  -- F and since, before k.
-  since-back : (k : ℕ) → k < L
-      → modalRow diamond L (moveSquare back) (modalRow diamond L (testSquare f) (sinceRow f g)) k
-      ≡ greatestIn 0 k (sinceAt f g k)
-  unfolding gate edge
+  since-back : (k : ℕ) → k < L → modalRow diamond L (moveSquare back) (sinceRow f g) k ≡ sinceBefore f g k
+  unfolding edge
   since-back k l =
-      let x : Row = modalRow diamond L (testSquare f) (sinceRow f g) in
-      let y : Row = λ j. greatestIn 0 j (sinceAt f g j) in
-      let step : (i : ℕ) → i + 1 ≡ k → x i ≡ y k = λ i e. rw (← e, since-earlier i)
-      (modal-test diamond L f (sinceRow f g) i (omega arith) (since-bound i (omega arith))) in
-      move-row L back diamond x (λ j b. modal-bound diamond L _ (sinceRow f g) j since-bound) k l
-      ∙ before-all x y k 0 step (stretch-none diamond 0 0 (sinceAt f g 0) (le-refl 0))
+      move-row L back diamond (sinceRow f g) since-bound k l
+      ∙ before-all (sinceRow f g) (sinceBefore f g) k 0 (λ i e. ap (sinceBefore f g) e)
+      (stretch-none diamond 0 0 (sinceAt f g 0) (le-refl 0))
 
-  pub since-solves : Solves diamond L (sequenceSquare L (moveSquare back) (testSquare f)) g (sinceRow f g)
+  pub since-solves : Solves diamond L (sequenceSquare L (testSquare f) (moveSquare back)) g (sinceRow f g)
   unfolding joined
-  since-solves k l = stretch-last diamond 0 k (sinceAt f g k) zero-le ∙ rw (at-hand k l, modal-sequence, since-back k l)
+  since-solves k l =
+      stretch-last diamond 0 k (sinceAt f g (k + 1)) zero-le
+      ∙ rw (at-hand k (k + 1) l, since-earlier k, one-pass back (sinceRow f g) since-bound k l, since-back k l)

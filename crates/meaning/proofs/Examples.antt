@@ -13,7 +13,7 @@ use Rattle.meaning.specs.Translation.{handed, contextIn, edgeRule, joinR
 use Rattle.meaning.specs.Refusal.{ofFirst, ground1, ground2, stray, ground3, late, ground4, beyond, ground5, differ, misfit, ground6, ground6-last, ground7, ground8, ground8-cells, grounds9, ground10, isStar, ground11, ground12, badLiteral, badRule, ground13-length, ground13, ground14, ground14-text, isBack, ground18, ground19, recordGrounds, treeGrounds, starGrounds, checkGrounds, expandGrounds, valueGrounds, translateGrounds, judgeGrounds, writeGrounds, readGrounds}
 use Rattle.meaning.specs.Service.{expandAnswer, expandAfter, rowBy, rowOf, table, valueAnswer, valueAfter, translateAnswer, translateAfter, judgment, judgeAnswer, writeAnswer, writeAfter, readAnswer, readAfter}
 use Rattle.meaning.specs.Text.{decimalIn, decimal, modeSign, moveSign, spell, spellPath, isAhead, then, else, after, sign, digit, number, twoDigits, oneDigit, readNumber, readAtom, readMode, readJoin, readForm, readPath, whole, read, isRead, orFalse, formIn}
-use Rattle.meaning.specs.Examples.{Starred, Others, Fillings, Texts}
+use Rattle.meaning.specs.Examples.{Starred, Others, Since, Fillings, Texts}
 
 -- Every definition that an example runs through.
 unfoldable pub open-all : Unit {0}
@@ -54,6 +54,15 @@ others =
       n-box = record { accepted = refl; values = refl };
       n-diamond = record { accepted = refl; values = refl };
       printed = refl;
+    }
+
+pub since : Since
+unfolding open-all
+since =
+    record {
+      expands = record { answer = refl; records = refl };
+      right = record { accepted = refl; values = refl };
+      wrong = record { accepted = refl; values = refl };
     }
 
 pub filled : Fillings

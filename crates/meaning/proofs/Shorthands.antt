@@ -53,7 +53,7 @@ module _ (L : ℕ) (cell : ℕ → ℕ → ℕ) (cells : (k i : ℕ) → k < L �
     once = along-row L cell cells back diamond F k l;
     so-far = along-row L cell cells back box F k l;
     until = star-row L cell cells diamond ahead (sequence (test F) (move ahead)) refl refl G _ (until-solves L (row F) (row G) (low G)) k l;
-    since = star-row L cell cells diamond back (sequence (move back) (test F)) refl refl G _ (since-solves L (row F) (row G) (low G)) k l;
+    since = star-row L cell cells diamond back (sequence (test F) (move back)) refl refl G _ (since-solves L (row F) (row G) (low G)) k l;
   }
 
 pub shorthands : Shorthands

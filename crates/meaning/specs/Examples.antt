@@ -5,6 +5,7 @@
 --   Refused s A number          the translator refuses with this number
 --   Starred                     the examples that the document marks to be proved
 --   Others                      example N, and the printed translation of ⟨step⟩p
+--   Since                       "p since q" at and after the instant of q
 --   Fillings                      the judge over traces filled with labels, right ones and wrong ones
 --   Texted s A t                the records s are written as the text t, and t is read as them
 --   Unread A t number           reading t is refused with this number
@@ -60,6 +61,16 @@ untilShort = p ++ q ++ recordBytes (Kind.shorthand Shorthand.until) 0 1
 
 abbrev pub until : List ℕ
 until = p ++ recordBytes Kind.test 0 0 ++ step ++ recordBytes Kind.sequence 1 2 ++ recordBytes Kind.star 3 0 ++ q ++ recordBytes (Kind.modal diamond) 4 5
+
+-- p since q: ⟨(p? ; back)*⟩q, and not ⟨(back ; p?)*⟩q
+abbrev pub sinceShort : List ℕ
+sinceShort = p ++ q ++ recordBytes (Kind.shorthand Shorthand.since) 0 1
+
+abbrev pub since : List ℕ
+since = p ++ recordBytes Kind.test 0 0 ++ back ++ recordBytes Kind.sequence 1 2 ++ recordBytes Kind.star 3 0 ++ q ++ recordBytes (Kind.modal diamond) 4 5
+
+abbrev pub sinceWrong : List ℕ
+sinceWrong = back ++ p ++ recordBytes Kind.test 1 0 ++ recordBytes Kind.sequence 0 2 ++ recordBytes Kind.star 3 0 ++ q ++ recordBytes (Kind.modal diamond) 4 5
 
 -- [(step ; step)*]p
 abbrev pub everySecond : List ℕ
@@ -138,6 +149,13 @@ pub record Others : Type 0 where
       ++ (0 ∷ 36 ∷ 1 ∷ 34 ∷ 0 ∷ 0 ∷ [])
       ++ (0 ∷ 34 ∷ 1 ∷ 36 ∷ 0 ∷ 0 ∷ [])
       ++ (1 ∷ 1 ∷ 1 ∷ 36 ∷ 0 ∷ 0 ∷ [])
+
+-- q at the first of two instants, p at the second: p since q holds at both. Tested after the step back, p is asked for at the first instant,
+-- where it is false, and the plan is thrown away.
+pub record Since : Type 0 where
+  pub expands : Expands sinceShort since 2
+  pub right : WholeRow since 2 2 (0 ∷ 2 ∷ 2 ∷ 0 ∷ []) (2 ∷ 2 ∷ [])
+  pub wrong : WholeRow sinceWrong 2 2 (0 ∷ 2 ∷ 2 ∷ 0 ∷ []) (2 ∷ 0 ∷ [])
 
 -- The judge's answer to all rules of a formula but the one that asserts it, over a trace filled with labels: a row has the atoms' cells
 -- and a label for each record.

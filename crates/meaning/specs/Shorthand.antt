@@ -12,4 +12,4 @@ expansion (end w) F G = modal box (move w) (constant false)
 expansion (beside w m) F G = modal m (move w) F
 expansion (along w m) F G = modal m (star (move w)) F
 expansion until F G = modal diamond (star (sequence (test F) (move ahead))) G
-expansion since F G = modal diamond (star (sequence (move back) (test F))) G
+expansion since F G = modal diamond (star (sequence (test F) (move back))) G

@@ -44,8 +44,8 @@ pub record Means (L : ℕ) (f g : Row) (k : ℕ) (worth : Shorthand → ℕ) : T
   pub so-far : worth (along back box) ≡ leastIn 0 (k + 1) f
   -- G at some j from k on, and F at k and at all instants before j.
   pub until : worth Shorthand.until ≡ greatestIn k L (λ j. min (g j) (leastIn k j f))
-  -- G at some j up to k, and F at j and at all instants before k: each step back is followed by a test.
-  pub since : worth Shorthand.since ≡ greatestIn 0 (k + 1) (λ j. min (g j) (leastIn j k f))
+  -- G at some j up to k, and F at all instants after j, up to k.
+  pub since : worth Shorthand.since ≡ greatestIn 0 (k + 1) (λ j. min (g j) (leastIn (j + 1) (k + 1) f))
 
 pub record Shorthands : Type 0 where
   pub mean : (L : ℕ) (cell : ℕ → ℕ → ℕ) → ((k i : ℕ) → k < L → cell k i ≤ 2) → (F G : Form) (k : ℕ) → k < L
