@@ -2,7 +2,7 @@
 -- The row of a star is the only one that solves its equation: at each instant the continuation, joined with one pass and then the row. Over a
 -- move, the stretch from the instant at hand to the end of the trace solves it: a stretch is its first instant and the rest, or its last
 -- instant and those before. Until at k is G there, or F there and until at the next instant; since at k is G there, or F there and since
--- at the previous instant. What a later instant adds is after the same test of F in all of them, so the test stands before their greatest.
+-- at the previous instant. What another instant adds is after the same test of F in all of them, so the test stands before their greatest.
 --   overIn m a b f          the greatest of f over the instants a .. b - 1 under a diamond, the least under a box
 --   shifted w L f k else    f at the instant beside k in the way w; `else` where there is none
 use Prim.Native.Nat.{ℕ, zero, suc, _+_, _-_, _≤_, _<_, min, max, pred, zero-le}
@@ -198,6 +198,7 @@ sinceAt f g b j = min (g j) (leastIn (j + 1) b f)
 abbrev pub untilRow : ℕ → Row → Row → Row
 untilRow L f g k = greatestIn k L (untilAt f g k)
 
+-- Since at the instant before b, 0 if there is none; and at k.
 abbrev sinceBefore : Row → Row → Row
 sinceBefore f g b = greatestIn 0 b (sinceAt f g b)
 
