@@ -4,7 +4,7 @@ use Prim.Native.Nat.{ℕ, zero, suc, _+_, _≤_, _<_, zero-le, min, max}
 use mathlib.Core.Path.{_≡_, refl, subst⁻¹}
 use mathlib.Core.Bool.{Bool, true, false, cond}
 use mathlib.Core.Logic.{_⊎_, inl, inr}
-use native.Mathlib.Nat.{le-refl, eq-or-lt-of-le, le-of-suc-le-suc}
+use native.Mathlib.Nat.{le-refl, le-trans, le-max-left, le-max-right, eq-or-lt-of-le, le-of-suc-le-suc}
 use native.Mathlib.Decide.{decLe}
 use native.Mathlib.Numerals.{add-one}
 use native.Mathlib.Omega.{arith}
@@ -19,6 +19,13 @@ le-or-lt a b = elim (decLe a b) [ yes h ↦ inl h | no h ↦ inr (omega arith) ]
 pub cond-within : (b : Bool) {x y n : ℕ} → x ≤ n → y ≤ n → cond b x y ≤ n
 cond-within true h i = h
 cond-within false h i = i
+
+-- What is at least the greater of two is at least each of them.
+pub first-within : (a b : ℕ) {n : ℕ} → max a b ≤ n → a ≤ n
+first-within a b l = le-trans (le-max-left a b) l
+
+pub second-within : (a b : ℕ) {n : ℕ} → max a b ≤ n → b ≤ n
+second-within a b l = le-trans (le-max-right a b) l
 
 -- A number below suc n is n, or is below n.
 pub below-suc : {j n : ℕ} → j < suc n → (j ≡ n) ⊎ (j < n)

@@ -2,20 +2,19 @@
 -- has at most that many bytes for each record of its tree, and the text of any formula fits where mostText bytes do.
 use Prim.Native.Nat.{ℕ, zero, suc, pred, _+_, _*_, _/_, _%_, _<_, _≤_}
 use Prim.Native.Char.{code}
-use mathlib.Core.Path.{_≡_}
+use mathlib.Core.Path.{_≡_, refl}
 use mathlib.Core.Bool.{true, false}
 use mathlib.Core.List.{List, [], _∷_}
 use mathlib.Core.Logic.{inl, inr}
-use native.Mathlib.Nat.{le-trans, le-max-left, le-max-right}
 use native.Mathlib.Omega.{arith}
 use borrow.Author.Tests.{lt-ltb, le-ltb}
 use lib.ListN.{length, length-append}
-use Rattle.meaning.specs.Record.{core, count, diamond, box, ahead, back}
+use Rattle.meaning.specs.Record.{core, count, Mode, diamond, box, ahead, back}
 use Rattle.meaning.specs.Formula.{Form, Path, formAtoms, pathAtoms}
 use Rattle.meaning.specs.Tree.{formAt, formSize, pathSize}
 use Rattle.meaning.specs.Text.{decimal, decimalIn, falseSign, modeSign, moveSign, spell, spellPath, wholeText, textAtoms, mostText}
 use Rattle.meaning.specs.WellFormed.{WellFormed}
-use Rattle.meaning.proofs.Bounds.{le-or-lt}
+use Rattle.meaning.proofs.Bounds.{le-or-lt, first-within, second-within}
 use Rattle.meaning.proofs.Atoms.{form-atoms}
 use Rattle.meaning.proofs.Sizes.{whole-size}
 
@@ -45,34 +44,28 @@ decimal-long n l = elim (le-or-lt 10 n) [
 abbrev longestSign : ℕ
 longestSign = length falseSign
 
+mode-long : (m : Mode) → length (modeSign m) ≡ 3
+unfolding modeSign
+mode-long m = elim m [ diamond ↦ refl | box ↦ refl ]
+
 mutual
-  unfolding spell formSize formAtoms modeSign moveSign
+  unfolding spell formSize formAtoms moveSign
 
   pub spell-long : (F : Form) → formAtoms F ≤ textAtoms → length (spell F) ≤ longestSign * formSize F
   spell-long (Form.constant true) low = omega arith
   spell-long (Form.constant false) low = omega arith
   spell-long (Form.atom i) low = omega (arith, decimal-long i (omega arith))
-  spell-long (Form.modal diamond p f) low =
-      let first = path-long p (le-trans (le-max-left _ _) low) in
-      let second = spell-long f (le-trans (le-max-right (pathAtoms p) _) low) in
-      simp length-append (omega arith)
-  spell-long (Form.modal box p f) low =
-      let first = path-long p (le-trans (le-max-left _ _) low) in
-      let second = spell-long f (le-trans (le-max-right (pathAtoms p) _) low) in
-      simp length-append (omega arith)
+  spell-long (Form.modal m p f) low =
+      simp length-append (omega (arith, path-long p (first-within _ _ low), mode-long m, spell-long f (second-within (pathAtoms p) _ low)))
 
   pub path-long : (P : Path) → pathAtoms P ≤ textAtoms → length (spellPath P) ≤ longestSign * pathSize P
   path-long (Path.move ahead) low = omega arith
   path-long (Path.move back) low = omega arith
   path-long (Path.test f) low = simp length-append (omega (arith, spell-long f low))
   path-long (Path.choice p q) low =
-      let first = path-long p (le-trans (le-max-left _ _) low) in
-      let second = path-long q (le-trans (le-max-right (pathAtoms p) _) low) in
-      simp length-append (omega arith)
+      simp length-append (omega (arith, path-long p (first-within _ _ low), path-long q (second-within (pathAtoms p) _ low)))
   path-long (Path.sequence p q) low =
-      let first = path-long p (le-trans (le-max-left _ _) low) in
-      let second = path-long q (le-trans (le-max-right (pathAtoms p) _) low) in
-      simp length-append (omega arith)
+      simp length-append (omega (arith, path-long p (first-within _ _ low), path-long q (second-within (pathAtoms p) _ low)))
   path-long (Path.star p) low = simp length-append (omega (arith, path-long p low))
 
 pub whole-fits : {s : List ℕ} {A : ℕ} → WellFormed core s A → length (wholeText s) ≤ mostText

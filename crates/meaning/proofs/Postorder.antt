@@ -10,7 +10,7 @@ use mathlib.Core.Path.{_≡_, refl, sym, _∙_}
 use mathlib.Core.Bool.{true, cond}
 use mathlib.Core.Logic.{inl, inr}
 use mathlib.Core.List.{List, _++_}
-use native.Mathlib.Nat.{le-refl, le-trans, le-max-left, le-max-right}
+use native.Mathlib.Nat.{le-refl}
 use native.Mathlib.Omega.{arith}
 use lib.ListN.{length, getD, length-append}
 use lib.Dec.{eqb}
@@ -19,7 +19,7 @@ use Rattle.meaning.specs.Record.{Language, recordSize, recordBytes, Kind
 use Rattle.meaning.specs.Formula.{Form, Path, formAtoms, pathAtoms}
 use Rattle.meaning.specs.Tree.{Tree, noTree, asForm, asPath, nodeOf, trees, treeAt, formSize, pathSize, formFrom, pathFrom}
 use Rattle.meaning.specs.WellFormed.{Fits}
-use Rattle.meaning.proofs.Bounds.{le-or-lt, below-suc}
+use Rattle.meaning.proofs.Bounds.{le-or-lt, below-suc, first-within, second-within}
 use Rattle.meaning.proofs.Accepted.{Sound}
 use Rattle.meaning.proofs.Nodes.{tree-node, trees-settled}
 use Rattle.meaning.proofs.Bytes.{At, Reads, at-first, at-second, at-record}
@@ -163,16 +163,16 @@ module _ (ℓ : Language) (e : List ℕ) (A : ℕ) where
     form-part (Form.constant v) n low = part-leaf (Kind.constant v) 0 refl refl refl (λ r. refl) (λ t. refl)
     form-part (Form.atom i) n low = part-leaf Kind.atom i refl (omega arith) refl (λ r. refl) (λ t. refl)
     form-part (Form.modal m p f) n low =
-        part-double (Kind.modal m) refl refl refl (path-part p n (le-trans (le-max-left _ _) low))
-        (form-part f (n + pathSize p) (le-trans (le-max-right (pathAtoms p) _) low)) (λ t i j a b. rw (a, b))
+        part-double (Kind.modal m) refl refl refl (path-part p n (first-within _ _ low))
+        (form-part f (n + pathSize p) (second-within (pathAtoms p) _ low)) (λ t i j a b. rw (a, b))
 
     pub path-part : (P : Path) (n : ℕ) → pathAtoms P ≤ A → Part n (pathSize P) Sort.path (Tree.path P) (pathFrom P n)
     path-part (Path.move w) n low = part-leaf (Kind.move w) 0 refl refl refl (λ r. refl) (λ t. refl)
     path-part (Path.test f) n low = part-single Kind.test refl refl refl (form-part f n low) (λ t i a. rw a)
     path-part (Path.choice p q) n low =
-        part-double Kind.choice refl refl refl (path-part p n (le-trans (le-max-left _ _) low))
-        (path-part q (n + pathSize p) (le-trans (le-max-right (pathAtoms p) _) low)) (λ t i j a b. rw (a, b))
+        part-double Kind.choice refl refl refl (path-part p n (first-within _ _ low))
+        (path-part q (n + pathSize p) (second-within (pathAtoms p) _ low)) (λ t i j a b. rw (a, b))
     path-part (Path.sequence p q) n low =
-        part-double Kind.sequence refl refl refl (path-part p n (le-trans (le-max-left _ _) low))
-        (path-part q (n + pathSize p) (le-trans (le-max-right (pathAtoms p) _) low)) (λ t i j a b. rw (a, b))
+        part-double Kind.sequence refl refl refl (path-part p n (first-within _ _ low))
+        (path-part q (n + pathSize p) (second-within (pathAtoms p) _ low)) (λ t i j a b. rw (a, b))
     path-part (Path.star p) n low = part-single Kind.star refl refl refl (path-part p n low) (λ t i a. rw a)

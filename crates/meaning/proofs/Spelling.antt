@@ -7,13 +7,12 @@ use mathlib.Core.Bool.{Bool, true, false, cond, _&&_, true≢false}
 use mathlib.Core.Logic.{_⊎_, inl, inr}
 use mathlib.Core.List.{List, [], _∷_, _++_, append-assoc, append-nil}
 use mathlib.Core.Option.{Option, none, some}
-use native.Mathlib.Nat.{le-trans, le-max-left, le-max-right}
 use native.Mathlib.Omega.{arith}
 use lib.Dec.{eqb, leb}
 use lib.ListN.{length, getD, length-append}
 use borrow.Author.Tests.{eqb-true, leb-true, le-leb, ltb-true, lt-ltb}
 use Rattle.meaning.proofs.Fails.{and-holds}
-use Rattle.meaning.proofs.Bounds.{le-or-lt}
+use Rattle.meaning.proofs.Bounds.{le-or-lt, first-within, second-within}
 use Rattle.meaning.proofs.Lengths.{one-digit, two-digits}
 use Rattle.meaning.specs.Record.{Mode, diamond, box, ahead, back}
 use Rattle.meaning.specs.Formula.{Form, Path, formAtoms, pathAtoms}
@@ -283,9 +282,9 @@ mutual
       let (g, h) = mode-read m (spell f ++ (41 ∷ u)) in
       rw (
         reassoc (spellPath p) (modeSign m) (spell f) u,
-        path-read p n _ x (le-trans (le-max-left _ _) b) (first-smaller _ _ n l) h,
+        path-read p n _ x (first-within _ _ b) (first-smaller _ _ n l) h,
         g,
-        form-read f n (41 ∷ u) y (le-trans (le-max-right (pathAtoms p) _) b) (second-smaller (pathSize p) _ n l) refl,
+        form-read f n (41 ∷ u) y (second-within (pathAtoms p) _ b) (second-smaller (pathSize p) _ n l) refl,
       )
   form-read (Form.constant v) zero u a b l d = absurd (omega arith)
   form-read (Form.atom i) zero u a b l d = absurd (omega arith)
@@ -300,15 +299,15 @@ mutual
       let (x, y) = and-holds (forwardPath p) (forwardPath q) .0 a in
       rw (
         reassoc (spellPath p) choiceSign (spellPath q) u,
-        path-read p n (43 ∷ spellPath q ++ (41 ∷ u)) x (le-trans (le-max-left _ _) b) (first-smaller _ _ n l) refl,
-        path-read q n (41 ∷ u) y (le-trans (le-max-right (pathAtoms p) _) b) (second-smaller (pathSize p) _ n l) refl,
+        path-read p n (43 ∷ spellPath q ++ (41 ∷ u)) x (first-within _ _ b) (first-smaller _ _ n l) refl,
+        path-read q n (41 ∷ u) y (second-within (pathAtoms p) _ b) (second-smaller (pathSize p) _ n l) refl,
       )
   path-read (Path.sequence p q) (suc n) u a b l d =
       let (x, y) = and-holds (forwardPath p) (forwardPath q) .0 a in
       rw (
         reassoc (spellPath p) sequenceSign (spellPath q) u,
-        path-read p n (59 ∷ spellPath q ++ (41 ∷ u)) x (le-trans (le-max-left _ _) b) (first-smaller _ _ n l) refl,
-        path-read q n (41 ∷ u) y (le-trans (le-max-right (pathAtoms p) _) b) (second-smaller (pathSize p) _ n l) refl,
+        path-read p n (59 ∷ spellPath q ++ (41 ∷ u)) x (first-within _ _ b) (first-smaller _ _ n l) refl,
+        path-read q n (41 ∷ u) y (second-within (pathAtoms p) _ b) (second-smaller (pathSize p) _ n l) refl,
       )
   path-read (Path.star p) (suc n) u a b l d = rw (path-read p n u a b (omega arith) d)
   path-read (Path.move w) zero u a b l d = absurd (omega arith)
