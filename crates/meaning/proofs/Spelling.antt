@@ -254,7 +254,7 @@ mutual
 abbrev Apart : List ℕ → Type 0
 Apart u = digit (getD u 0 0) ≡ false
 
-reassoc : (a b d u : List ℕ) → (a ++ (b ++ (d ++ closing))) ++ u ≡ a ++ (b ++ (d ++ (41 ∷ u)))
+reassoc : (a b d u : List ℕ) → (a ++ (b ++ (d ++ closing))) ++ u ≡ a ++ (b ++ (d ++ (closing ++ u)))
 reassoc a b d u = simp append-assoc
 
 mode-read : (m : Mode) (u : List ℕ) → (readMode (modeSign m ++ u) ≡ some (m, u)) × Apart (modeSign m ++ u)
@@ -279,12 +279,12 @@ mutual
   form-read (Form.atom i) (suc n) u a b l d = rw (number-read i u (omega arith) d)
   form-read (Form.modal m p f) (suc n) u a b l d =
       let (x, y) = and-holds (forwardPath p) (forward f) .0 a in
-      let (g, h) = mode-read m (spell f ++ (41 ∷ u)) in
+      let (g, h) = mode-read m (spell f ++ (closing ++ u)) in
       rw (
         reassoc (spellPath p) (modeSign m) (spell f) u,
         path-read p n _ x (first-within _ _ b) (first-smaller _ _ n l) h,
         g,
-        form-read f n (41 ∷ u) y (second-within (pathAtoms p) _ b) (second-smaller (pathSize p) _ n l) refl,
+        form-read f n (closing ++ u) y (second-within (pathAtoms p) _ b) (second-smaller (pathSize p) _ n l) refl,
       )
   form-read (Form.constant v) zero u a b l d = absurd (omega arith)
   form-read (Form.atom i) zero u a b l d = absurd (omega arith)
@@ -299,15 +299,15 @@ mutual
       let (x, y) = and-holds (forwardPath p) (forwardPath q) .0 a in
       rw (
         reassoc (spellPath p) choiceSign (spellPath q) u,
-        path-read p n (43 ∷ spellPath q ++ (41 ∷ u)) x (first-within _ _ b) (first-smaller _ _ n l) refl,
-        path-read q n (41 ∷ u) y (second-within (pathAtoms p) _ b) (second-smaller (pathSize p) _ n l) refl,
+        path-read p n (choiceSign ++ (spellPath q ++ (closing ++ u))) x (first-within _ _ b) (first-smaller _ _ n l) refl,
+        path-read q n (closing ++ u) y (second-within (pathAtoms p) _ b) (second-smaller (pathSize p) _ n l) refl,
       )
   path-read (Path.sequence p q) (suc n) u a b l d =
       let (x, y) = and-holds (forwardPath p) (forwardPath q) .0 a in
       rw (
         reassoc (spellPath p) sequenceSign (spellPath q) u,
-        path-read p n (59 ∷ spellPath q ++ (41 ∷ u)) x (first-within _ _ b) (first-smaller _ _ n l) refl,
-        path-read q n (41 ∷ u) y (second-within (pathAtoms p) _ b) (second-smaller (pathSize p) _ n l) refl,
+        path-read p n (sequenceSign ++ (spellPath q ++ (closing ++ u))) x (first-within _ _ b) (first-smaller _ _ n l) refl,
+        path-read q n (closing ++ u) y (second-within (pathAtoms p) _ b) (second-smaller (pathSize p) _ n l) refl,
       )
   path-read (Path.star p) (suc n) u a b l d = rw (path-read p n u a b (omega arith) d)
   path-read (Path.move w) zero u a b l d = absurd (omega arith)

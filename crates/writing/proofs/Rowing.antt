@@ -13,14 +13,14 @@ use lib.Dec.{leb}
 use Rattle.meaning.specs.Record.{core, Kind, constant, atom, modal, move, test, choice, sequence, star, shorthand, unknown, columnsOf, Mode}
 use Rattle.meaning.specs.Record.{diamond, box, formula, path, sortOf, mostRecords, count, kinds, kindOf, kindByte, kindAt, fieldA, fieldB, numberOf}
 use Rattle.meaning.specs.Translation.{label, context, rulesOf, rulesAt, asserted, translation, ruleNumber}
-use Rattle.meaning.specs.{Run.each, Run.written, Rule.Rule, Rule.rule, Rule.ruleSize, Rule.words, WellFormed.WellFormed}
+use Rattle.meaning.specs.{Run.each, Run.tabulate, Run.written, Rule.Rule, Rule.rule, Rule.ruleSize, Rule.words, WellFormed.WellFormed}
 use Rattle.meaning.proofs.{Bounds.le-or-lt, Climbing.path-before, Climbing.continuation-record, Nodes.either-sort, Nodes.differs}
 use Rattle.meaning.proofs.{RuleCount.record-few, RuleCount.rules-counted, RuleCount.words-length, Runs.each-more, Runs.getD-tabulate}
 use Rattle.records.specs.Code.{modeOf}
 use Rattle.records.proofs.Ranges.{stretch}
 use Rattle.contexts.specs.Contexts.{packed, entryBy, contextsOf}
-use Rattle.rulings.specs.Rows.{rowsOf}
-use Rattle.writing.specs.Rows.{wordsIn}
+use Rattle.rulings.specs.Rows.{rowOf, rowsOf}
+use Rattle.writing.specs.Rows.{rowWords, wordsIn}
 use Rattle.copying.specs.Appended.{Appended}
 use Rattle.copying.proofs.Appending.{append-length, append-more, append-written}
 
@@ -92,9 +92,14 @@ module _ {s : List ℕ} {A : ℕ} (w : WellFormed core s A) {r : ℕ} (l : r < c
     rules-number e = e ∙ sym (rules-counted (kindAt s r) _ _ _ _ _ _) ∙ ap length record-rules ∙ record-counted s A r
 
 -- ---- rows
--- Those of rules hold their words.
+-- A rule's row holds its words,
+row-words : (ρ : Rule) → rowWords (rowOf ρ) ≡ words (ρ ∷ [])
+unfolding each tabulate words
+row-words ρ = refl
+
+-- and the rows of rules theirs.
 rows-words : (ρs : List Rule) → length ρs ≤ 4 → wordsIn (rowsOf ρs) (length ρs) ≡ words ρs
-unfolding each words
+unfolding each tabulate words
 rows-words [] h = refl
 rows-words (ρ ∷ []) h = refl
 rows-words (ρ ∷ σ ∷ []) h = refl
@@ -158,9 +163,9 @@ module _ (s : List ℕ) (A : ℕ) where
       room-last = let p = rw end at p in omega (arith, total, append-length p, p .place)
 
       -- With it, all are written.
-      pub all-written : {new : List ℕ} {e x : ℕ} → x ≡ label A (pred (count s)) → Appended mid at (words (rule 1 [] (x ∷ []) ∷ [])) e new
+      pub all-written : {row new : List ℕ} {e x : ℕ} → x ≡ label A (pred (count s)) → row ≡ rowOf (rule 1 [] (x ∷ [])) → Appended mid at (rowWords row) e new
           → (e / ruleSize ≡ length (translation s A)) × (new ≡ written (words (translation s A)) old)
-      all-written x q =
-          let whole = rw (← translation-words) at (append-more (rw end at p) (rw x at q)) in
+      all-written {x = x} last row q =
+          let whole = rw (← translation-words) at (append-more (rw end at p) (rw (row, row-words (rule 1 [] (x ∷ [])), last) at q)) in
           let (e, n) = append-written whole (omega (arith, whole .place, words-length (translation s A))) in
           (omega (arith, words-length (translation s A)), n)

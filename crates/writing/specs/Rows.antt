@@ -1,13 +1,14 @@
 -- The words of rows.
---   rowWords row     the six words of a row
+--   rowWords row     the words of a row, as many as a rule has
 --   wordsIn rows n   those of the first n rows, end to end
 use Prim.Native.Nat.{ℕ}
-use mathlib.Core.List.{List, [], _∷_}
+use mathlib.Core.List.{List, []}
 use lib.ListN.{getD}
-use Rattle.meaning.specs.Run.{each}
+use Rattle.meaning.specs.Run.{each, tabulate}
+use Rattle.meaning.specs.Rule.{ruleSize}
 
 abbrev pub rowWords : List ℕ → List ℕ
-rowWords row = getD row 0 0 ∷ getD row 1 0 ∷ getD row 2 0 ∷ getD row 3 0 ∷ getD row 4 0 ∷ getD row 5 0 ∷ []
+rowWords row = tabulate ruleSize (λ i. getD row i 0)
 
 abbrev pub wordsIn : List (List ℕ) → ℕ → List ℕ
 wordsIn rows n = each n (λ i. rowWords (getD rows i []))

@@ -5,7 +5,7 @@ use mathlib.Core.List.{List, [], _∷_}
 use native.Mathlib.Omega.{arith}
 use lib.ListN.{getD, set}
 use borrow.Author.Needs.{needs}
-use Rattle.meaning.specs.{Run.each, Rule.ruleSize}
+use Rattle.meaning.specs.{Run.each, Run.tabulate, Rule.ruleSize}
 use Rattle.copying.specs.Appended.{Appended}
 use Rattle.copying.proofs.Appending.{append-one, append-length, append-next}
 use Rattle.writing.proofs.put_row.Statement.{statement}
@@ -29,7 +29,7 @@ stored {mid} {at} row i p =
     record { place = omega (arith, q .place); whole = q .whole }
 
 pub put-row-spec : {M : Type 1} → statement M
-unfolding each
+unfolding each tabulate
 put-row-spec = tie.close (tie.spec
     Inv-loop μ-loop
     (λ c. (omega arith, record { place = refl; whole = refl })) (λ c. search needs) (λ c. search needs) (λ c. search needs) (λ c. search needs)

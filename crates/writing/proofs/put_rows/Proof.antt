@@ -2,7 +2,7 @@
 use mathlib.Core.Path.{_≡_}
 use native.Mathlib.Omega.{arith}
 use borrow.Author.Needs.{needs}
-use Rattle.meaning.specs.Run.{each}
+use Rattle.meaning.specs.Run.{each, tabulate}
 use Rattle.copying.proofs.Appending.{append-length, append-more}
 use Rattle.writing.proofs.put_rows.Statement.{statement}
 use Rattle.writing.proofs.put_rows.Tie as tie
@@ -18,7 +18,7 @@ abbrev third : tie.After-put-row4 → tie.After-put-row3
 third c = c .before .before .before .before .before .before
 
 pub put-rows-spec : {M : Type 1} → statement M
-unfolding each
+unfolding each tabulate
 put-rows-spec = tie.close (tie.spec
     (λ c. search needs) (λ c κs. search needs) (λ c. search needs)
     (λ c κs. let one = c .before .before .before .before .put-row .ensures in

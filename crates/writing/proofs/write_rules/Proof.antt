@@ -47,4 +47,4 @@ write-rules-spec = tie.close (tie.spec
     let s = at .before .before .before .before in
     let n = at .before .record-count .ensures in
     all-written (s .args .records .now) (s .args .atoms) (s .pre .2) {r = at .loop .r} (omega arith) (at .loop .inv .1)
-    (omega (arith, label .label .ensures)) (rw (put .before .assert-row .ensures) at (put .put-row .ensures))))
+    (omega (arith, label .label .ensures)) (put .before .assert-row .ensures) (put .put-row .ensures)))
