@@ -154,8 +154,18 @@ two-parts {C = C} W R j S k kind node m s x u h =
     }
 
 -- ---- formulas
+-- Of false's sign and record, or true's: how long the one is, and the other's kind.
+abbrev pub constantLength : Bool → ℕ
+constantLength c = cond c (length falseSign) (length trueSign)
+
+abbrev pub constantNumber : Bool → ℕ
+constantNumber c = cond c (numberOf (constant false)) (numberOf (constant true))
+
+abbrev isFalse : List ℕ → Bool
+isFalse s = eqb (getD s 0 0) (code "f")
+
 abbrev pub constantKind : List ℕ → ℕ
-constantKind s = cond (eqb (getD s 0 0) (code "f")) (numberOf (constant false)) (numberOf (constant true))
+constantKind s = constantNumber (isFalse s)
 
 abbrev pub modeKind : List ℕ → ℕ
 modeKind v = cond (eqb (getD v 2 0) (code "?")) (numberOf (modal diamond)) (numberOf (modal box))
@@ -163,23 +173,21 @@ modeKind v = cond (eqb (getD v 2 0) (code "?")) (numberOf (modal diamond)) (numb
 abbrev pub joinKind : List ℕ → ℕ
 joinKind v = cond (eqb (getD v 0 0) (code "+")) (numberOf choice) (numberOf sequence)
 
-constant-passed : (t : List ℕ) (at : ℕ) (s u : List ℕ) → textAt t at ≡ some s → afterHash s ≡ some u → textAt t (at + cond (eqb (getD s 0 0) (code "f")) (length (ascii "false")) (length (ascii "true"))) ≡ some u
-constant-passed t at s u h reads = ⊎-elim
-    (λ f. let e = after-some (ascii "false") s u f in rw e (behind-sign t (ascii "false") u at (rw e at h)))
-    (λ f. let e = after-some (ascii "true") s u f in rw e (behind-sign t (ascii "true") u at (rw e at h)))
+-- What stands behind #: the first byte tells false from true.
+constant-passed : (t : List ℕ) (at : ℕ) (s u : List ℕ) → textAt t (at + 1) ≡ some s → afterHash s ≡ some u → textAt t (at + constantLength (isFalse s)) ≡ some u
+constant-passed t at s u h reads =
+    let five : at + 1 + length (ascii "false") ≡ at + length falseSign = omega arith in
+    let four : at + 1 + length (ascii "true") ≡ at + length trueSign = omega arith in
+    ⊎-elim
+    (λ f. let e = after-some (ascii "false") s u f in rw e (rw five at (behind-sign t (ascii "false") u (at + 1) (rw e at h))))
+    (λ f. let e = after-some (ascii "true") s u f in rw e (rw four at (behind-sign t (ascii "true") u (at + 1) (rw e at h))))
     (else-some (after (ascii "false") s) (after (ascii "true") s) u reads)
 
--- What stands behind #: the first byte tells false from true.
 pub constant-stands : (t : List ℕ) (at : ℕ) (c : Bool) → eqb (getD t (at + 1) 0) (code "f") ≡ c → (s u : List ℕ) → textAt t (at + 1) ≡ some s → afterHash s ≡ some u
-    → (textAt t (at + cond c (length falseSign) (length trueSign)) ≡ some u) × (cond c (numberOf (constant false)) (numberOf (constant true)) ≡ constantKind s)
+    → (textAt t (at + constantLength c) ≡ some u) × (constantNumber c ≡ constantKind s)
 constant-stands t at c e s u h reads =
     let first : getD s 0 0 ≡ getD t (at + 1) 0 = sym (byte-of t (at + 1) s h 0) ∙ rw add-zero in
-    let same : at + 1 + cond c (length (ascii "false")) (length (ascii "true")) ≡ at + cond c (length falseSign) (length trueSign) = sizes c in
-    (rw (first, e, same) at (constant-passed t (at + 1) s u h reads), rw (first, e))
-  where
-    sizes : (c : Bool) → at + 1 + cond c (length (ascii "false")) (length (ascii "true")) ≡ at + cond c (length falseSign) (length trueSign)
-    sizes true = omega arith
-    sizes false = omega arith
+    (rw (first, e) at (constant-passed t at s u h reads), rw (first, e))
 
 module _ (b : ℕ) where
   pub constant-leaf : b ≡ code "#" → (m : ℕ) (s u : List ℕ) (x : Form) → getD s 0 0 ≡ b → readForm m s ≡ some (x, u) → Leaf forms afterHash constantKind (λ s. 0) s x u

@@ -21,6 +21,9 @@ const MODE_SIZE: usize = 3;
 
 const STEP_SIZE: usize = 2;
 
+// The byte of a modality's sign that tells a diamond from a box.
+const MODE_BYTE: usize = 2;
+
 // Where a part ends, and the number after its last record.
 pub struct Made {
     end: usize,
@@ -40,7 +43,7 @@ pub fn write_form(text: &[u8], at: usize, buffer: &mut [u8; layout::MOST_BYTES],
         }
         _ => {
             let path = write_path(text, at + 1, buffer, n);
-            let kind = choose(text, path.end + 2, b'?', kind::DIAMOND, kind::BOX);
+            let kind = choose(text, path.end + MODE_BYTE, b'?', kind::DIAMOND, kind::BOX);
             let form = write_form(text, path.end + MODE_SIZE, buffer, path.next);
             put(
                 buffer,

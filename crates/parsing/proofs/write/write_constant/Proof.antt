@@ -2,19 +2,18 @@
 use Prim.Native.Char.{code}
 use Prim.Native.Nat.{ℕ, _+_, _*_, _<_}
 use mathlib.Core.Path.{_≡_, refl, sym, _∙_}
-use mathlib.Core.Bool.{Bool, true, false, cond}
+use mathlib.Core.Bool.{Bool, true, false}
 use mathlib.Core.List.{List}
 use native.Mathlib.Omega.{arith}
 use lib.Dec.{eqb}
-use lib.ListN.{length, getD}
+use lib.ListN.{getD}
 use lib.Seq.{sets}
 use borrow.Author.Needs.{needs}
 use borrow.Author.Tests.{eq-eqb, ne-eqb}
-use Rattle.meaning.specs.Record.{recordSize, mostRecords, bytesOf, numberOf, constant}
-use Rattle.meaning.specs.Text.{falseSign, trueSign}
+use Rattle.meaning.specs.Record.{recordSize, mostRecords, bytesOf, numberOf}
 use Rattle.parsing.specs.Places.{hash}
 use Rattle.parsing.specs.Writing.{forms, Readable, Wrote}
-use Rattle.parsing.proofs.Parts.{constant-leaf, constant-stands}
+use Rattle.parsing.proofs.Parts.{constantLength, constantNumber, constant-leaf, constant-stands}
 use Rattle.parsing.proofs.Writing.{leaf-room, leaf-wrote}
 use Rattle.parsing.proofs.write.write_constant.Statement.{statement}
 use Rattle.parsing.proofs.write.write_constant.Tie as tie
@@ -26,8 +25,8 @@ room : {t : List ℕ} {at n : ℕ} → Asked t at n → (n < mostRecords) × (0 
 room (r, byte) = (leaf-room forms _ _ hash (sym byte) (constant-leaf hash refl) r, omega arith, omega arith)
 
 -- The constant that the byte behind # tells was written.
-wrote : {t old new : List ℕ} {at n e′ n′ : ℕ} → Asked t at n → (c : Bool) → eqb (getD t (at + 1) 0) (code "f") ≡ c → (e′ ≡ at + cond c (length falseSign) (length trueSign))
-    × (n′ ≡ n + 1) × (new ≡ sets old (recordSize * n) (bytesOf (cond c (numberOf (constant false)) (numberOf (constant true))) 0 0)) → Wrote forms t at n old e′ n′ new
+wrote : {t old new : List ℕ} {at n e′ n′ : ℕ} → Asked t at n → (c : Bool) → eqb (getD t (at + 1) 0) (code "f") ≡ c → (e′ ≡ at + constantLength c)
+    × (n′ ≡ n + 1) × (new ≡ sets old (recordSize * n) (bytesOf (constantNumber c) 0 0)) → Wrote forms t at n old e′ n′ new
 wrote (r, byte) c tells put = leaf-wrote forms _ _ hash (sym byte) (constant-leaf hash refl) r (omega arith)
     (λ s u h reads. let (there, kind) = constant-stands _ _ c tells s u h reads in (there, kind, refl)) put
 
