@@ -36,21 +36,25 @@ over_in diamond = greatest_in
 over_in box = least_in
 
 over_in_is : (m : Mode) (a b n : ℕ) (f : Row) → b - a ≡ n → over_in m a b f ≡ over m n (λ i. f (a + i))
-over_in_is m a b n f e = elim m [ diamond ↦ rw e | box ↦ rw e ]
+over_in_is diamond a b n f e = rw e
+over_in_is box a b n f e = rw e
 
 -- ---- the last member, and the first
 over_last : (m : Mode) (n : ℕ) (f : Row) → over m (suc n) f ≡ joined m (f n) (over m n f)
 unfolding greatest least joined
-over_last m n f = elim m [ diamond ↦ omega arith | box ↦ omega arith ]
+over_last diamond n f = omega arith
+over_last box n f = omega arith
 
 over_none : (m : Mode) (f : Row) → over m 0 f ≡ edge m
 unfolding greatest least edge
-over_none m f = elim m [ diamond ↦ refl | box ↦ refl ]
+over_none diamond f = refl
+over_none box f = refl
 
 -- A join in another order.
 joined_turned : (m : Mode) (u v w : ℕ) → joined m u (joined m v w) ≡ joined m v (joined m u w)
 unfolding joined
-joined_turned m u v w = elim m [ diamond ↦ omega arith | box ↦ omega arith ]
+joined_turned diamond u v w = omega arith
+joined_turned box u v w = omega arith
 
 over_first : (m : Mode) (n : ℕ) (f : Row) → over m (suc n) f ≡ joined m (f 0) (over m n (λ i. f (suc i)))
 over_first m zero f = over_last m zero f ∙ ap (joined m (f 0)) (over_none m f ∙ sym (over_none m _))
@@ -83,7 +87,8 @@ module _ (m : Mode) (a b : ℕ) (f : Row) where
   -- The greatest of values, or the least, is a value.
   pub stretch_bound : ((j : ℕ) → j < b → f j ≤ 2) → over_in m a b f ≤ 2
   stretch_bound h =
-      elim m [ diamond ↦ greatest_within (b - a) _ 2 (λ i l. h (a + i) (omega arith)) | box ↦ least_bound (b - a) _ ]
+      elim m as (λ m. over_in m a b f ≤ 2)
+      [ diamond ↦ greatest_within (b - a) _ 2 (λ i l. h (a + i) (omega arith)) | box ↦ least_bound (b - a) _ ]
 
 -- What is before the greater of two is before both.
 min_of_max : (u v w : ℕ) → max (min u v) (min u w) ≡ min u (max v w)
@@ -147,7 +152,8 @@ first_only (suc k) = rw (lt-ltb 0 (suc k) (omega arith), eqb-suc-zero)
 -- A move's own way is not the other.
 turned : (w : Way) → same_way (other w) w ≡ false
 unfolding same_way other
-turned w = elim w [ ahead ↦ refl | back ↦ refl ]
+turned ahead = refl
+turned back = refl
 
 -- The instants from k on: k .. L - 1 ahead, 0 .. k back.
 unfoldable pub stretch : Way → Mode → ℕ → Row → Row

@@ -46,7 +46,8 @@ longest_sign = length false_sign
 
 mode_long : (m : Mode) → length (mode_sign m) ≡ 3
 unfolding mode_sign
-mode_long m = elim m [ diamond ↦ refl | box ↦ refl ]
+mode_long diamond = refl
+mode_long box = refl
 
 mutual
   unfolding spell form_size form_atoms move_sign

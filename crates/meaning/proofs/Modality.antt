@@ -14,7 +14,8 @@ use Rattle.meaning.proofs.Within.{joined, gate, edge, within_less, within_positi
 -- A modality over values has a value.
 pub modal_bound : (m : Mode) (L : ℕ) (p : Square) (c : Row) (k : ℕ) → ((j : ℕ) → j < L → c j ≤ 2) → modal_row m L p c k ≤ 2
 unfolding modal_row diamond_row box_row
-modal_bound m L p c k b = elim m [ diamond ↦ greatest_within L _ 2 (λ j l. omega (arith, b j l)) | box ↦ least_bound L _ ]
+modal_bound diamond L p c k b = greatest_within L _ 2 (λ j l. omega (arith, b j l))
+modal_bound box L p c k b = least_bound L _
 
 module _ (m : Mode) (L : ℕ) where
   -- Only the instants that the path leads to count.

@@ -20,7 +20,8 @@ use Rattle.meaning.proofs.Modality.{modal_bound}
 -- A move has a value.
 pub move_bound : (w : Way) (k j : ℕ) → move_square w k j ≤ 2
 unfolding move_square
-move_bound w k j = elim w [ ahead ↦ there_bound j (k + 1) 2 | back ↦ there_bound (j + 1) k 2 ]
+move_bound ahead k j = there_bound j (k + 1) 2
+move_bound back k j = there_bound (j + 1) k 2
 
 -- Any number of passes has a value.
 passes_bound : (L : ℕ) (p : Square) (n k j : ℕ) → passes L p n k j ≤ 2
@@ -67,12 +68,14 @@ Strictly w k j = Leads w 1 k j
 -- Standing still is along either way.
 leads_same : (w : Way) (k j : ℕ) → j ≡ k → Along w k j
 unfolding Leads
-leads_same w k j e = elim w [ ahead ↦ omega arith | back ↦ omega arith ]
+leads_same ahead k j e = omega arith
+leads_same back k j e = omega arith
 
 -- Two stretches add up.
 leads_add : (w : Way) (r s t k i j : ℕ) → r ≤ s + t → Leads w s k i → Leads w t i j → Leads w r k j
 unfolding Leads
-leads_add w r s t k i j l = elim w [ ahead ↦ omega arith | back ↦ omega arith ]
+leads_add ahead r s t k i j l = omega arith
+leads_add back r s t k i j l = omega arith
 
 -- At least s is at least what is less.
 leads_less : (w : Way) (r s k j : ℕ) → r ≤ s → Leads w s k j → Leads w r k j
@@ -81,8 +84,10 @@ leads_less w r s k j l a = leads_add w r s 0 k j j (omega arith) a (leads_same w
 -- A move that doesn't go the other way leads one instant far.
 beside_leads : (w v : Way) (k j : ℕ) → same_way (other w) v ≡ false → Beside v k j → Strictly w k j
 unfolding same_way other Beside Leads
-beside_leads ahead v k j = elim v [ ahead ↦ λ g b. omega arith | back ↦ λ g b. absurd (true≢false g) ]
-beside_leads back v k j = elim v [ ahead ↦ λ g b. absurd (true≢false g) | back ↦ λ g b. omega arith ]
+beside_leads ahead ahead k j = λ g b. omega arith
+beside_leads ahead back k j = λ g b. absurd (true≢false g)
+beside_leads back ahead k j = λ g b. absurd (true≢false g)
+beside_leads back back k j = λ g b. omega arith
 
 -- ---- how far a path leads at least, by whether it may stand still
 pace : Bool → ℕ
@@ -91,13 +96,17 @@ pace b = cond b 0 1
 -- A choice, no farther than either arm.
 pace_or : (a b : Bool) → (pace (a || b) ≤ pace a) × (pace (a || b) ≤ pace b)
 unfolding pace
-pace_or a b = elim a [ true ↦ omega arith | false ↦ elim b [ true ↦ omega arith | false ↦ omega arith ] ]
+pace_or true b = omega arith
+pace_or false true = omega arith
+pace_or false false = omega arith
 
 -- A sequence, no farther than both parts together.
 pace_and : (a b : Bool) → pace (a && b) ≤ pace a + pace b
 unfolding pace
-pace_and a b =
-    elim a [ true ↦ elim b [ true ↦ omega arith | false ↦ omega arith ] | false ↦ elim b [ true ↦ omega arith | false ↦ omega arith ] ]
+pace_and true true = omega arith
+pace_and true false = omega arith
+pace_and false true = omega arith
+pace_and false false = omega arith
 
 module _ (L : ℕ) (cell : ℕ → ℕ → ℕ) (w : Way) where
   -- Passes lead along the way that one leads.

@@ -34,17 +34,20 @@ Beside back k j = j + 1 ≡ k
 -- There is at most one such instant.
 pub beside_one : (w : Way) (k i j : ℕ) → Beside w k i → Beside w k j → j ≡ i
 unfolding Beside
-beside_one w k i j = elim w [ ahead ↦ omega arith | back ↦ omega arith ]
+beside_one ahead k i j = omega arith
+beside_one back k i j = omega arith
 
 -- A move leads there only.
 pub move_beside : (w : Way) (k j : ℕ) → 0 < move_square w k j → Beside w k j
 unfolding Beside move_square
-move_beside w k j = elim w [ ahead ↦ only_there j (k + 1) 2 | back ↦ only_there (j + 1) k 2 ]
+move_beside ahead k j = only_there j (k + 1) 2
+move_beside back k j = only_there (j + 1) k 2
 
 -- It leads there with the value 2.
 pub beside_move : (w : Way) (k j : ℕ) → Beside w k j → move_square w k j ≡ 2
 unfolding Beside move_square
-beside_move w k j = elim w [ ahead ↦ value_there j (k + 1) 2 | back ↦ value_there (j + 1) k 2 ]
+beside_move ahead k j = value_there j (k + 1) 2
+beside_move back k j = value_there (j + 1) k 2
 
 -- ---- sequences
 -- A value of a sequence comes by way of some instant.

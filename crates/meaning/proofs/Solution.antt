@@ -20,7 +20,8 @@ distance back L k = k
 -- It falls along the way.
 distance_falls : (w : Way) (L k j : ℕ) → k < L → Strictly w k j → distance w L j < distance w L k
 unfolding distance Leads
-distance_falls w L k j l = elim w [ ahead ↦ omega arith | back ↦ omega arith ]
+distance_falls ahead L k j l = omega arith
+distance_falls back L k j l = omega arith
 
 -- The equation of the row x of a star with body p and continuation c.
 abbrev pub Solves : Mode → ℕ → Square → Row → Row → Type 0

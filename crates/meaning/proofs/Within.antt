@@ -36,12 +36,14 @@ Within box a x y = min a (min 2 y) ≤ x
 -- Up to less, less is asked.
 pub within_less : (m : Mode) (a b x y : ℕ) → b ≤ a → Within m a x y → Within m b x y
 unfolding Within
-within_less m a b x y l = elim m [ diamond ↦ omega arith | box ↦ omega arith ]
+within_less diamond a b x y l = omega arith
+within_less box a b x y l = omega arith
 
 -- Up to 0, nothing is asked.
 pub within_positive : (m : Mode) (a b x y : ℕ) → (0 < b → Within m (min a b) x y) → Within m (min a b) x y
 unfolding Within
-within_positive m a zero x y h = elim m [ diamond ↦ omega arith | box ↦ omega arith ]
+within_positive diamond a zero x y h = omega arith
+within_positive box a zero x y h = omega arith
 within_positive m a (suc b) x y h = h (omega arith)
 
 -- Up to the greater of two: up to both.
@@ -78,12 +80,13 @@ two_most a y = le_trans (min-le_right a _) (min-le_left 2 y)
 pub within_greatest : (m : Mode) (L : ℕ) (f : Row) (a x y : ℕ) →
     Within m (min a (greatest L f)) x y ↔ ((i : ℕ) → i < L → Within m (min a (f i)) x y)
 unfolding Within
-within_greatest m L f a x y = (
-  λ h i l. within_less m _ _ x y (omega (arith, greatest_member L f i l)) h,
-  elim m [
-    | diamond ↦ λ h. swapped a x _ y (min_greatest L f (min a x) y (λ i l. swapped a (f i) x y (h i l)))
-    | box ↦ λ h. swapped a (min 2 y) _ x (min_greatest L f (min a (min 2 y)) x (λ i l. swapped a (f i) (min 2 y) x (h i l)))
-  ],
+within_greatest diamond L f a x y = (
+  λ h i l. within_less diamond _ _ x y (omega (arith, greatest_member L f i l)) h,
+  λ h. swapped a x _ y (min_greatest L f (min a x) y (λ i l. swapped a (f i) x y (h i l))),
+)
+within_greatest box L f a x y = (
+  λ h i l. within_less box _ _ x y (omega (arith, greatest_member L f i l)) h,
+  λ h. swapped a (min 2 y) _ x (min_greatest L f (min a (min 2 y)) x (λ i l. swapped a (f i) (min 2 y) x (h i l))),
 )
 
 least_of_two : (t u v : ℕ) → t ≤ min u v ↔ (t ≤ u × t ≤ v)
@@ -92,7 +95,8 @@ least_of_two t u v = (omega arith, omega arith)
 -- A join is within y if both are.
 pub within_joined : (m : Mode) (a u v y : ℕ) → Within m a (joined m u v) y ↔ (Within m a u y × Within m a v y)
 unfolding Within joined
-within_joined m a u v y = elim m [ diamond ↦ omega arith | box ↦ least_of_two (min a (min 2 y)) u v ]
+within_joined diamond a u v y = omega arith
+within_joined box a u v y = least_of_two (min a (min 2 y)) u v
 
 -- A gate is within y if, up to its test, what is after it is.
 pub within_gate : (m : Mode) (a u v y : ℕ) → Within m a (gate m u v) y ↔ Within m (min a u) v y
@@ -106,7 +110,8 @@ within_gate box a u v y = (
 -- The edge is within everything.
 pub within_edge : (m : Mode) (a y : ℕ) → Within m a (edge m) y
 unfolding Within edge
-within_edge m a y = elim m [ diamond ↦ omega arith | box ↦ omega arith ]
+within_edge diamond a y = omega arith
+within_edge box a y = omega arith
 
 -- A row is within y if all its gates are.
 pub within_row : (m : Mode) (L : ℕ) (p : Square) (c : Row) (k a y : ℕ) →
@@ -136,19 +141,23 @@ same_within box x z b d h = le_antisymm (omega (arith, (h x x).0 (omega arith)))
 -- Rows, joins, gates and edges are such numbers.
 pub fits_row : (m : Mode) (L : ℕ) (p : Square) (c : Row) (k : ℕ) → Bounded m (modal_row m L p c k)
 unfolding Bounded modal_row box_row
-fits_row m L p c k = elim m [ diamond ↦ tt | box ↦ least_bound L _ ]
+fits_row diamond L p c k = tt
+fits_row box L p c k = least_bound L _
 
 pub fits_joined : (m : Mode) (u v : ℕ) → Bounded m u → Bounded m v → Bounded m (joined m u v)
 unfolding Bounded joined
-fits_joined m u v = elim m [ diamond ↦ λ f g. tt | box ↦ omega arith ]
+fits_joined diamond u v = λ f g. tt
+fits_joined box u v = omega arith
 
 pub fits_gate : (m : Mode) (u v : ℕ) → v ≤ 2 → Bounded m (gate m u v)
 unfolding Bounded gate
-fits_gate m u v b = elim m [ diamond ↦ tt | box ↦ imp_bound u v b ]
+fits_gate diamond u v b = tt
+fits_gate box u v b = imp_bound u v b
 
 pub fits_edge : (m : Mode) → Bounded m (edge m)
 unfolding Bounded edge
-fits_edge m = elim m [ diamond ↦ tt | box ↦ le_refl 2 ]
+fits_edge diamond = tt
+fits_edge box = le_refl 2
 
 pub ruleset fits = (fits_row, fits_joined, fits_gate, fits_edge)
 
@@ -160,4 +169,5 @@ row_is m L p c k x f h = same_within m _ x (fits_row m L p c k) f (λ a y. Iff.t
 -- After a test that holds stands the value itself.
 pub gate_two : (m : Mode) (v : ℕ) → v ≤ 2 → gate m 2 v ≡ v
 unfolding gate
-gate_two m v b = elim m [ diamond ↦ omega arith | box ↦ imp_two v b ]
+gate_two diamond v b = omega arith
+gate_two box v b = imp_two v b

@@ -45,7 +45,8 @@ nowhere m L p c k none = row_is m L p c k _ (search fits) (λ a y. (
 -- A value joined with an edge.
 joined_edge : (m : Mode) (v : ℕ) → v ≤ 2 → joined m v (edge m) ≡ v
 unfolding joined edge
-joined_edge m v b = elim m [ diamond ↦ omega arith | box ↦ omega arith ]
+joined_edge diamond v b = omega arith
+joined_edge box v b = omega arith
 
 -- At the last instant, a star whose body goes forward.
 forward : (m : Mode) (L : ℕ) (cell : ℕ → ℕ → ℕ) (p : Path) (c : Row) → goes back p ≡ false → may_stand p ≡ false
