@@ -1,4 +1,6 @@
 // Checking formula records.
+#![tactic(auto)]
+
 pub mod refusal;
 
 ghost use Rattle.std.specs.Prelude.{◌≡◌};

@@ -1,4 +1,6 @@
 // The star of a path, in its square: 2 on the diagonal for no pass, then each instant in turn as a stop on the way.
+#![tactic(auto)]
+
 ghost use Rattle.std.specs.Prelude.{◌≡◌, ℕ, ◌<◌, ◌≤◌, length, get_or};
 ghost use Rattle.meaning.specs.Record.{ahead, back};
 ghost use Rattle.meaning.specs.Refusal.{most_instants};

@@ -1,5 +1,7 @@
 // What each path stands under: the mode, which is its modality's kind, and the continuation, the record whose label continues it. Both go
 // down the path from its modality, the record number falling.
+#![tactic(auto)]
+
 ghost use Rattle.std.specs.Prelude.{◌≡◌, ◌+◌, ◌*◌, ◌/◌, ◌%◌, ◌<◌};
 ghost use Rattle.paths.specs.Asking.{Formed};
 ghost use Rattle.contexts.specs.Contexts.{contexts_of, Given, Handed};

@@ -1,4 +1,6 @@
 // How many records the formula of a text takes: each has one byte of its own in the text.
+#![tactic(auto)]
+
 ghost use Rattle.std.specs.Prelude.{◌≡◌, true, ◌≤◌, length};
 ghost use Rattle.meaning.specs.Tree.{form_size};
 ghost use Rattle.meaning.specs.Text.{most_text, read, is_read, form_in};

@@ -1,4 +1,6 @@
 // Writing a formula's shorthands out.
+#![tactic(auto)]
+
 mod steps;
 mod write;
 

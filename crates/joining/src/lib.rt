@@ -1,4 +1,6 @@
 // Choice and sequence: the square of two paths from their squares. A move in a sequence shifts rows or columns.
+#![tactic(auto)]
+
 ghost use Rattle.std.specs.Prelude.{◌≡◌, cond, ltb, ◌<◌, ◌≤◌, length};
 ghost use Rattle.meaning.specs.Refusal.{most_instants};
 ghost use Rattle.meaning.specs.Value.{move_square, choice_square, sequence_square};

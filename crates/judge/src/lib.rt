@@ -1,4 +1,6 @@
 // Judging rules over a filled trace.
+#![tactic(auto)]
+
 mod form;
 mod literal;
 mod rule;

@@ -1,4 +1,6 @@
 // The printing program: records come in, and their rules go out as text.
+#![tactic(auto)]
+
 ghost use Rattle.std.specs.Prelude.{◌≡◌, ◌++◌, ◌*◌, ◌+◌, ◌<◌, ◌≤◌, length};
 ghost use Rattle.meaning.specs.Run.{each, written};
 ghost use Rattle.meaning.specs.Rule.{rule_size};

@@ -1,4 +1,6 @@
 // Text of formulas: whether it is one, and its records in postorder.
+#![tactic(auto)]
+
 mod ends;
 mod write;
 

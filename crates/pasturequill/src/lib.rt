@@ -1,5 +1,7 @@
 // The front door: the services as a C program calls them. No function here has a `requires`; each states its complete outcome,
 // the answer and every lent buffer, on every input. The specification's words for these are in the crate `meaning`, in specs/Service.
+#![tactic(auto)]
+
 ghost use Rattle.std.specs.Prelude.{◌≡◌, length};
 ghost use Rattle.meaning.specs.Service.{check_answer, expand_answer, expand_after, value_answer, value_after, translate_answer, translate_after, judge_answer};
 ghost use Rattle.meaning.specs.Service.{write_answer, write_after, read_answer, read_after};

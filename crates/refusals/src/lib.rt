@@ -1,4 +1,6 @@
 // What services give back: the numbers of refusals, and an answer with a count.
+#![tactic(auto)]
+
 pub const ACCEPTED: u8 = 0;
 
 pub const WRONG_LENGTH: u8 = 1;

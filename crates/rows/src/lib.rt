@@ -1,5 +1,7 @@
 // Rows of a path's square. A square is one array, WIDTH bytes to a row: the value from k to j is at k * WIDTH + j. A row is copied into a
 // local, changed there and put back, so the compiler sees that it is no part of the square and makes a vector instruction or two of each loop.
+#![tactic(auto)]
+
 ghost use Rattle.std.specs.Prelude.{◌≡◌, ◌+◌, ◌<◌, ◌≤◌, length, get_or, replicate};
 ghost use Rattle.rows.specs.Cells.{width, area, at, row_at, Put, Rowed, Values, Raised};
 

@@ -1,4 +1,5 @@
 // What a rule's words are: a place, two literals of the body, three of the head.
+#![tactic(auto)]
 
 // The words of one rule, and the most rules of a list.
 pub const RULE_SIZE: usize = 6;

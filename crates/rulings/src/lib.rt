@@ -1,4 +1,6 @@
 // The rules of one record, as four rows of six words.
+#![tactic(auto)]
+
 ghost use Rattle.std.specs.Prelude.{◌≡◌, ◌<◌, [], ◌∷◌, ◌++◌};
 ghost use Rattle.meaning.specs.Record.{kind_of};
 ghost use Rattle.meaning.specs.Rule.{rule};

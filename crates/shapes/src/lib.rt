@@ -1,4 +1,6 @@
 // What a record's kind says: its sort, what its fields hold, and which services take it.
+#![tactic(auto)]
+
 ghost use Rattle.std.specs.Prelude.{◌≡◌};
 ghost use Rattle.meaning.specs.Record.{kind_of, sort_of, use_a, use_b, known};
 ghost use Rattle.shapes.specs.Uses.{sort_code, use_code, language_of};

@@ -1,4 +1,6 @@
 // The text of a formula's records, in the signs of telingo.
+#![tactic(auto)]
+
 mod sign;
 
 ghost use Rattle.std.specs.Prelude.{◌≡◌, length};

@@ -1,4 +1,6 @@
 // Squares of moves and tests, the value from each instant to each, and of a test before a path.
+#![tactic(auto)]
+
 ghost use Rattle.std.specs.Prelude.{◌≡◌, ◌+◌, ◌≤◌, length};
 ghost use Rattle.meaning.specs.Refusal.{most_instants};
 ghost use Rattle.meaning.specs.Value.{move_square, test_square};

@@ -1,4 +1,6 @@
 // Rows of the table: the values of one formula at each instant, a row each.
+#![tactic(auto)]
+
 ghost use Rattle.std.specs.Prelude.{◌≡◌, ◌+◌, ◌*◌, ◌<◌, ◌≤◌, length};
 ghost use Rattle.meaning.specs.Run.{cell_of};
 ghost use Rattle.meaning.specs.Record.{most_records};

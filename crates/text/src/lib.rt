@@ -1,3 +1,5 @@
 // Formulas as text: writing records as text, and reading text as records.
+#![tactic(auto)]
+
 pub mod reading;
 pub mod writing;

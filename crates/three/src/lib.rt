@@ -1,4 +1,6 @@
 // The three values as bytes: 0 false, 1 there only, 2 here.
+#![tactic(auto)]
+
 ghost use Rattle.std.specs.Prelude.{◌≡◌, min, max};
 ghost use Rattle.meaning.specs.Three.{imp, negation};
 

@@ -1,4 +1,6 @@
 // A trace's sizes and cells: refusals 8 and 9 of the services that take one.
+#![tactic(auto)]
+
 ghost use Rattle.std.specs.Prelude.{◌≡◌, ◌<◌, length, get_or};
 ghost use Rattle.meaning.specs.Three.{greatest};
 ghost use Rattle.meaning.specs.Refusal.{first_of, ground8_cells, grounds9};

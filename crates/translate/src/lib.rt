@@ -1,4 +1,6 @@
 // Translating a formula into rules: the first refusal, and the work that is done once it is 0.
+#![tactic(auto)]
+
 ghost use Rattle.std.specs.Prelude.{◌≡◌, length};
 ghost use Rattle.meaning.specs.Refusal.{first_of, starred_grounds, translate_grounds};
 ghost use Rattle.meaning.specs.Service.{translate_answer, translate_after};

@@ -1,4 +1,6 @@
 // Valuing a formula over a trace.
+#![tactic(auto)]
+
 ghost use Rattle.std.specs.Prelude.{◌≡◌, length};
 ghost use Rattle.meaning.specs.Refusal.{first_of, value_grounds};
 ghost use Rattle.meaning.specs.Service.{value_answer, value_after};

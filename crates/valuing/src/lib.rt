@@ -1,4 +1,6 @@
 // The values of an accepted formula's records.
+#![tactic(auto)]
+
 mod formula;
 
 ghost use Rattle.std.specs.Prelude.{◌≡◌, pred, length};

@@ -1,4 +1,6 @@
 // The work of translating an accepted formula: how many rules it has, and writing them.
+#![tactic(auto)]
+
 ghost use Rattle.std.specs.Prelude.{◌≡◌, ◌*◌, ◌+◌, ◌<◌, ◌≤◌, length};
 ghost use Rattle.meaning.specs.Run.{written};
 ghost use Rattle.meaning.specs.Record.{count, kind_at};
