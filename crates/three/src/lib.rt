@@ -25,6 +25,7 @@ pub fn greater(u: u8, v: u8) -> u8
 }
 
 // The value of "v where u".
+#[tactic(auto, unfolding(meaning::specs::Three::imp))]
 pub fn imp(u: u8, v: u8) -> u8
     ensures { result ≡ imp u v }
 {
@@ -35,6 +36,7 @@ pub fn imp(u: u8, v: u8) -> u8
 }
 
 // The value of "not u".
+#[tactic(auto, unfolding(meaning::specs::Three::negation))]
 pub fn negation(u: u8) -> u8
     ensures { result ≡ negation u }
 {
