@@ -11,6 +11,7 @@ const MOST_INSTANTS: u64 = 32;
 pub const MOST_COLUMNS: u16 = 287;
 
 // 8: rows of over `most` cells, no instants or over 32, or another number of cells than the rows have.
+#[tactic(auto, unfolding(meaning::specs::Refusal::ground8_cells))]
 pub fn wrong_size(most: u16, width: u64, instants: u64, cells: &[u8]) -> bool
     ensures { result ≡ (ground8_cells most width instants cells.now).applies }
 {
