@@ -21,6 +21,7 @@ pub fn size_of(text: &[u8]) -> usize
 }
 
 // 1 for a record's own byte, else 0.
+#[tactic(auto, unfolding(crate::specs::Marks::mark))]
 fn mark(b: u8) -> u8
     ensures { (result ≡ mark b) × (result ≤ 7) }
 {
