@@ -13,6 +13,7 @@ use rows::{DIAGONAL, SIZE, Square, WIDTH};
 
 // ---- moves and tests: a diagonal each
 // How far after k * DIAGONAL the value of a move is: a step leads from k to k + 1, a back step from k + 1 to k.
+#[tactic(auto, unfolding(records::specs::Code::way_of, crate::specs::Places::next_cell))]
 fn next_cell(kind: u8) -> usize
     ensures { result ≡ next_cell (way_of kind) }
 {
