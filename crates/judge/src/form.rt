@@ -10,6 +10,7 @@ use crate::{literal, rule};
 use rules::{FIRST_COLUMN, LAST, LATER, MOST_RULES, RULE_SIZE};
 
 // The first of the words' length and the rules' forms.
+#[tactic(auto, unfolding(meaning::specs::Refusal::of_first, meaning::specs::Refusal::ground13_length))]
 pub fn rules_refusal(rules: &[u16], width: usize) -> u8
     requires { width ≤ most_columns }
     ensures { result ≡ first_of (ground13_length rules.now ∷ each (rule_count rules.now) (λ i. ground13 rules.now width i ∷ [])) }
@@ -39,6 +40,7 @@ fn each_refusal(rules: &[u16], width: usize) -> u8
 }
 
 // A place over 3, or a bad literal.
+#[tactic(auto, unfolding(meaning::specs::Refusal::bad_rule))]
 fn is_bad(rule: Rule, width: usize) -> bool
     requires { width ≤ most_columns }
     ensures { result ≡ bad_rule width (six rule.place rule.body1 rule.body2 rule.head1 rule.head2 rule.head3) }
@@ -52,6 +54,7 @@ fn is_bad(rule: Rule, width: usize) -> bool
 }
 
 // A symbol that is no column, or the previous instant where there may be none.
+#[tactic(auto, unfolding(meaning::specs::Refusal::bad_literal))]
 fn is_bad_literal(width: usize, place: u16, word: u16) -> bool
     requires { width ≤ most_columns }
     ensures { result ≡ bad_literal width place word }

@@ -25,6 +25,7 @@ fn is_negated(word: u16) -> bool
 }
 
 // A place's instants are those from its start up to its end.
+#[tactic(auto, unfolding(crate::specs::Filled::start_of))]
 pub fn start_of(l: usize, place: u16) -> usize
     requires { 0 < l }
     ensures { result ≡ start_of l place }
@@ -38,6 +39,7 @@ pub fn start_of(l: usize, place: u16) -> usize
     0
 }
 
+#[tactic(auto, unfolding(crate::specs::Filled::end_of))]
 pub fn end_of(l: usize, place: u16) -> usize
     ensures { result ≡ end_of l place }
 {
@@ -48,6 +50,7 @@ pub fn end_of(l: usize, place: u16) -> usize
 }
 
 // The value of a literal at instant k.
+#[tactic(auto, unfolding(meaning::specs::Rule::literal, meaning::specs::Rule::plain))]
 pub fn literal_at(word: u16, width: usize, cells: &[u8], k: usize) -> u8
     requires { (symbol_of word < 2 + width) × (width * k + width ≤ length cells.now) }
     ensures { result ≡ literal (cell_of width cells.now) word k }
@@ -73,6 +76,7 @@ fn instant_of(word: u16, k: usize) -> usize
 }
 
 // The value of a symbol: that of a constant, or a column's cell.
+#[tactic(auto, using(crate::proofs::Words::column), unfolding(meaning::specs::Rule::symbol_value))]
 fn symbol_at(symbol: u16, width: usize, cells: &[u8], k: usize) -> u8
     requires { (symbol < 2 + width) × (width * k + width ≤ length cells.now) }
     ensures { result ≡ symbol_value (cell_of width cells.now) symbol k }

@@ -7,7 +7,7 @@ ghost use Rattle.judge.specs.Filled.{six};
 use rules::RULE_SIZE;
 
 // Where it is judged, two literals of the body, three of the head.
-#[derive(Drop)]
+#[derive(Clone, Copy)]
 pub struct Rule {
     pub place: u16,
     pub body1: u16,
@@ -26,6 +26,7 @@ fn word(rules: &[u16], i: usize, j: usize) -> u16
 }
 
 // The six words of rule i.
+#[tactic(auto, unfolding(meaning::specs::Rule::rule_at))]
 pub fn rule_at(rules: &[u16], i: usize) -> Rule
     requires { i < rule_count rules.now }
     ensures { six result.place result.body1 result.body2 result.head1 result.head2 result.head3 ≡ rule_at rules.now i }
