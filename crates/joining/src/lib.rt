@@ -93,6 +93,7 @@ fn follow_move(kind: u8, s: &mut Square, l: usize)
 }
 
 // Where the first value of a row goes by a step, and where its second one goes by a back step.
+#[tactic(auto, unfolding(records::specs::Code::way_of, crate::specs::Joining::shift_of))]
 fn shift_of(kind: u8) -> usize
     ensures { result ≡ shift_of (way_of kind) }
 {
@@ -117,6 +118,7 @@ fn lead_move(kind: u8, s: &mut Square, q: &Square, l: usize)
 }
 
 // The instant to which the move leads from k, or l or more if there is none.
+#[tactic(auto, unfolding(records::specs::Code::way_of, crate::specs::Joining::beside_of))]
 fn beside(kind: u8, l: usize, k: usize) -> usize
     requires { k < width }
     ensures { result ≡ beside_of (way_of kind) l k }
