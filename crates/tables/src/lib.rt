@@ -59,6 +59,7 @@ pub fn put_modal(kind: u8, s: &Square, table: &mut [u8], from: usize, start: usi
 }
 
 // The diamond or the box at instant k.
+#[tactic(auto, unfolding(records::specs::Code::mode_of, meaning::specs::Value::modal_row))]
 fn modal_cell(kind: u8, s: &Square, table: &[u8], from: usize, l: usize, k: usize) -> u8
     requires { (from + l ≤ length table.now) × (k < l) × (l ≤ most_instants) }
     ensures { result ≡ modal_row (mode_of kind) l (at s.now) (row_at table.now from) k }

@@ -1,0 +1,11 @@
+-- `most` is the greatest of the first j values.
+use Rattle.std.proofs.Common.{◌-◌, ◌≡◌, ◌≤◌}
+use Rattle.meaning.specs.Value.{diamond_row}
+use Rattle.rows.specs.Cells.{at, row_at}
+use Rattle.tables.proofs.diamond_cell.Given as goal
+
+abbrev pub invariant-loop-j : goal.invariant-loop-j
+invariant-loop-j l = (l.j ≤ l.l) × (l.most ≡ diamond_row l.j (at l.s) (row_at l.table l.from) l.k)
+
+abbrev pub decreases-loop-j : goal.decreases-loop-j
+decreases-loop-j l = l.l - l.j
