@@ -81,6 +81,7 @@ fn join_end(text: &[u8], at: usize) -> usize
 
 // ---- an atom's number
 // From 0 to 9.
+#[tactic(auto, unfolding(meaning::specs::Text::digit))]
 fn is_digit(b: u8) -> bool
     ensures { result ≡ digit b }
 {
@@ -111,6 +112,7 @@ fn value(b: u8) -> usize
 }
 
 // Of two digits.
+#[tactic(auto, unfolding(meaning::specs::Text::number))]
 fn number(b: u8, c: u8) -> usize
     requires { (nought ≤ b) × (nought ≤ c) }
     ensures { (result ≡ number b c) × (result < 65_536) }

@@ -1,22 +1,14 @@
--- `write_constant` meets its contract.
+-- The byte behind # tells which constant it is.
+use Rattle.std.proofs.Common.{◌≡◌, ℕ, Bool, true, false, ◌+◌, ◌*◌, ◌<◌, List, eqb, get_or, refl, sym, ◌∙◌, arith}
+use Rattle.std.proofs.lemmas.List.Edits.{sets}
 use Prim.Native.Char.{code}
-use Prim.Native.Nat.{ℕ, ◌+◌, ◌*◌, ◌<◌}
-use mathlib.Core.Path.{◌≡◌, refl, sym, ◌∙◌}
-use mathlib.Core.Bool.{Bool, true, false}
-use mathlib.Core.List.{List}
-use native.Mathlib.Omega.{arith}
-use lib.Dec.{eqb}
-use lib.ListN.{get_or}
-use lib.Seq.{sets}
-use borrow.Author.Rules.{rules}
 use borrow.Author.Tests.{eq-eqb, ne_eqb}
 use Rattle.meaning.specs.Record.{record_size, most_records, bytes_of, number_of}
 use Rattle.parsing.specs.Places.{hash}
 use Rattle.parsing.specs.Writing.{forms, Readable, Wrote}
 use Rattle.parsing.proofs.Parts.{constant_length, constant_number, constant_leaf, constant_stands}
 use Rattle.parsing.proofs.Writing.{leaf_room, leaf_wrote}
-use Rattle.parsing.proofs.write.write_constant.Statement.{statement}
-use Rattle.parsing.proofs.write.write_constant.Tie as tie
+use Rattle.parsing.proofs.write.write_constant.Goals as goal
 
 abbrev Asked : List ℕ → ℕ → ℕ → Type 0
 Asked t at n = Readable forms t at n × (get_or t at 0 ≡ hash)
@@ -30,18 +22,16 @@ wrote : {t old new : List ℕ} {at n e' n' : ℕ} → Asked t at n → (c : Bool
 wrote (r, byte) c tells put = leaf_wrote forms _ _ hash (sym byte) (constant_leaf hash refl) r (omega arith)
     (λ s u h reads. let (there, kind) = constant_stands _ _ c tells s u h reads in (there, kind, refl)) put
 
-returns : tie.Need-returns
-unfolding number_of
-returns c =
-    let look = c.before.before.before in
-    wrote look.before.before.requires true (eq-eqb _ _ (sym look.byte_at.ensures.0 ∙ c.before.before.if1.true)) c.put.ensures
+pub put-requires : goal.put-requires
+put-requires c = room c.requires
 
-returns-2 : tie.Need-returns-2
-unfolding number_of
-returns-2 c =
-    let look = c.before.before.before in
-    wrote look.before.before.requires false (ne_eqb _ _ (λ f. c.before.before.if1.false (look.byte_at.ensures.0 ∙ f))) c.put2.ensures
+pub put-requires-2 : goal.put-requires-2
+put-requires-2 c = room c.requires
 
-pub write_constant_spec : {M : Type 1} → statement M
-write_constant_spec = tie.close (tie.spec (λ c. search rules) (λ c κs. search rules) (λ c. search rules) (λ c κs. room c.before.before.before.before.requires) returns
-    (λ c. search rules) (λ c κs. room c.before.before.before.before.requires) returns-2)
+pub returns-then-byte_at-eq102 : goal.returns-then-byte_at-eq102
+unfolding number_of
+returns-then-byte_at-eq102 c = wrote c.requires true (eq-eqb _ _ (sym c.byte_at.ensures.0 ∙ c.if-byte_at-eq102.true)) c.put.ensures
+
+pub returns : goal.returns
+unfolding number_of
+returns c = wrote c.requires false (ne_eqb _ _ (λ f. c.if-byte_at-eq102.false (c.byte_at.ensures.0 ∙ f))) c.put-2.ensures
