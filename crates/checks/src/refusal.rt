@@ -14,6 +14,7 @@ type Counts = [u8; layout::MOST_RECORDS];
 
 // ---- the length
 // 1: no records, a part of one, or over 255.
+#[tactic(auto, unfolding(meaning::specs::Refusal::ground1))]
 fn wrong_length(s: &[u8]) -> bool
     ensures { result ≡ (ground1 s.now).applies }
 {
