@@ -1,4 +1,4 @@
-# Sourced by whatever builds or runs a program in C. The archive that `rt staticlib` writes is for x86-64 on every machine, so these programs are too.
+# Sourced by whatever builds or runs a program in C. The archive that build.sh writes is for x86-64 on every machine, so these programs are too.
 #   CC       compiles and links a program for x86-64
 #   RUNNER   the words to put before such a program to run it; empty where it runs by itself
 # A caller's own CC and RUNNER are taken. On a machine other than x86-64 both come from Debian's packages. Those that are missing are

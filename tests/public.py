@@ -1,6 +1,7 @@
 """Holds the list of public functions to the sources. A public function is one that another crate can call: a `pub fn` in a crate's lib.rt or in
 a module that lib.rt makes public. Each has its field in crates/outcomes/specs/OneOutcome.antt, by name, and its row in docs/PROMISES.md; one that
-requires something has its row under "What functions require". And every wrong program of docs/PROMISES.md is an edit, and every edit is there."""
+requires something has its row under "What functions require". What the crate for C exports is each function of the front door, under its name and with
+its contract. And every wrong program of docs/PROMISES.md is an edit, and every edit is there."""
 import pathlib
 import re
 import sys
@@ -8,26 +9,33 @@ import sys
 ROOT = pathlib.Path(__file__).resolve().parent.parent
 # The program itself: no contract can say what it writes.
 NO_OUTCOME = {"listing::run"}
+# No crate can cite a static library, so what this one exports has no fields: its contracts are those of the front door, word for word.
+FRONT_DOOR, EXPORTED = "pasturequill", "pasturequill_c"
+FUNCTION = re.compile(r'^pub (?:extern "C" )?fn (\w+)(.*?)(?:^\{|\) \{$)', re.M | re.S)
 
 def public_functions():
     """Yields (path by crates, path in proofs, contract) of each."""
     for line in (ROOT / "crates.txt").read_text().splitlines():
-        name = line.split("#")[0].split(":")[0].strip()
+        name = line.split("#")[0].split(":")[0].strip().removesuffix(" staticlib")
         lib = ROOT / "crates" / name / "src/lib.rt"
-        if not name or not lib.exists():
+        if not name or name == EXPORTED or not lib.exists():
             continue
         modules = {"": lib}
         for module in re.findall(r"^pub mod (\w+);", lib.read_text(), re.M):
             modules[module] = lib.with_name(module + ".rt")
         for module, path in modules.items():
-            for found in re.finditer(r'^pub (?:extern "C" )?fn (\w+)(.*?)(?:^\{|\) \{$)', path.read_text(), re.M | re.S):
+            for found in FUNCTION.finditer(path.read_text()):
                 parts = [name] + ([module] if module else []) + [found[1]]
                 yield "::".join(parts), parts, found[2]
+
+def contracts(crate):
+    """Each public function of a crate's lib.rt with its parameters and clauses."""
+    return dict(FUNCTION.findall((ROOT / "crates" / crate / "src/lib.rt").read_text()))
 
 def main():
     outcomes = (ROOT / "crates/outcomes/specs/OneOutcome.antt").read_text()
     promises = (ROOT / "docs/PROMISES.md").read_text()
-    alias = {path: word for path, word in re.findall(r"^use Rattle·(\S+) as (\w+)$", outcomes, re.M)}
+    alias = {path: word for path, word in re.findall(r"^use Rattle\.(\S+) as (\w+)$", outcomes, re.M)}
     faults, count = [], 0
     for path, parts, contract in public_functions():
         count += 1
@@ -41,6 +49,8 @@ def main():
         required = promises.split("## What functions require")[-1].split("\n## ")[0]
         if ("requires {" in contract) != (f"`{path}`" in required):
             faults.append(f"{path}: what it requires and docs/PROMISES.md differ")
+    inside, outside = contracts(FRONT_DOOR), contracts(EXPORTED)
+    faults += [f"{EXPORTED} and {FRONT_DOOR} differ at {name}" for name in sorted(inside.keys() | outside.keys()) if inside.get(name) != outside.get(name)]
     written = set(re.findall(r"\| (\w+): (\w+) \|$", promises, re.M))
     edits = {(edit.parts[-3], edit.stem) for edit in ROOT.glob("crates/*/must-fail/*.edit")}
     faults += [f"docs/PROMISES.md names no edit: {crate}: {edit}" for crate, edit in sorted(written - edits)]

@@ -1,15 +1,16 @@
 // The printing program: records come in, and their rules go out as text.
 #![tactic(auto)]
 
-ghost use Rattle.std.specs.Prelude.{◌≡◌, ◌++◌, ◌*◌, ◌+◌, ◌<◌, ◌≤◌, length};
+ghost use Rattle.std.specs.Prelude.{◌≡◌, ◌++◌, ◌*◌, ◌+◌, ◌<◌, ◌≤◌, IfOk, length};
 ghost use Rattle.meaning.specs.Run.{each, written};
 ghost use Rattle.meaning.specs.Rule.{rule_size};
 ghost use Rattle.copying.specs.Appended.{Appended};
 ghost use Rattle.listing.specs.Printed.{spelled, line, line_end, printed, most_spelled, most_line, most_text};
-ghost use Rattle.listing.specs.Printed.{gap as Printed·gap};
+ghost use Rattle.listing.specs.Printed.{gap as gap_after};
 
 use records::layout;
 use rules::{MOST_RULES, RULE_SIZE};
+use std::io::{Read, Result, Write};
 
 // The longest text: a line for each rule, six words of at most six bytes, and a last line of at most 12.
 const MOST_LINE: usize = 36;
@@ -29,13 +30,28 @@ const READ: usize = layout::MOST_BYTES + 1;
 // Room for all rules, so that 10 is never the refusal.
 const MOST_WORDS: usize = RULE_SIZE * MOST_RULES;
 
-// Prints the rules of the records on standard input.
-pub fn run() {
+// Prints the rules of the records on standard input. A read or a write that fails is the error that comes back.
+pub fn run(rt: HostRuntime) -> Result<()> {
     let mut records = [0u8; READ];
-    let n = io::read_full(libc::STDIN_FILENO, &mut records);
+    let n = read_full(&mut rt.stdin(), &mut records)?;
     let mut out = [0u8; MOST_TEXT];
     let size = text(&records[..n], &mut out);
-    io::write_all(libc::STDOUT_FILENO, &out[..size]);
+    rt.stdout().write_all(&out[..size])
+}
+
+// Reads until the buffer is full or the input ends, and gives the number of bytes read.
+fn read_full<R: Read>(input: &mut R, bytes: &mut [u8]) -> Result<usize>
+    ensures { IfOk result (λ n. n ≤ length bytes.new) }
+{
+    let mut n: usize = 0;
+    while n < bytes.len() {
+        let more = input.read(&mut bytes[n..])?;
+        if more == 0 {
+            break;
+        }
+        n += more;
+    }
+    Ok(n)
 }
 
 // Puts the text for the records at the start of the output, and gives its length. The output is as long as its type says.
@@ -90,7 +106,7 @@ fn wide(w: u16) -> u64
 
 // What comes after word j of a rule.
 fn gap(j: usize) -> u8
-    ensures { result ≡ Printed·gap j }
+    ensures { result ≡ gap_after j }
 {
     if j == LAST_WORD { LINE_END } else { SPACE }
 }

@@ -1,5 +1,5 @@
-// The front door: the services as a C program calls them. No function here has a `requires`; each states its complete outcome,
-// the answer and every lent buffer, on every input. The specification's words for these are in the crate `meaning`, in specs/Service.
+// The front door: the services, which the crate `pasturequill_c` hands on to C. No function here has a `requires`; each states its complete
+// outcome, the answer and every lent buffer, on every input. The specification's words for these are in the crate `meaning`, in specs/Service.
 #![tactic(auto)]
 
 ghost use Rattle.std.specs.Prelude.{◌≡◌, length};
@@ -11,16 +11,14 @@ use refusals::Counted;
 use value::Valued;
 
 // Check: 0 if the bytes are the records of a formula over `atoms` atoms, else the number of the first refusal that applies.
-#[unsafe(no_mangle)]
-pub extern "C" fn pasturequill_check(records: &[u8], atoms: u64) -> u8
+pub fn pasturequill_check(records: &[u8], atoms: u64) -> u8
     ensures { result ≡ check_answer records.now atoms }
 {
     checks::check(records, atoms)
 }
 
 // Expand: the number of records of the formula in core kinds, and in the output these records in postorder, six bytes each.
-#[unsafe(no_mangle)]
-pub extern "C" fn pasturequill_expand(records: &[u8], atoms: u64, out: &mut [u8]) -> Counted
+pub fn pasturequill_expand(records: &[u8], atoms: u64, out: &mut [u8]) -> Counted
     ensures refusal { result.refusal ≡ (expand_answer records.now atoms (length out.old)).refusal }
     ensures count { result.count ≡ (expand_answer records.now atoms (length out.old)).count }
     ensures bytes { out.new ≡ expand_after records.now atoms out.old }
@@ -29,8 +27,7 @@ pub extern "C" fn pasturequill_expand(records: &[u8], atoms: u64, out: &mut [u8]
 }
 
 // Value: the whole formula's value at the first instant, and in the table each record's values, a row of `instants` bytes each.
-#[unsafe(no_mangle)]
-pub extern "C" fn pasturequill_value(
+pub fn pasturequill_value(
     records: &[u8],
     atoms: u64,
     instants: u64,
@@ -45,8 +42,7 @@ pub extern "C" fn pasturequill_value(
 }
 
 // Translate: the number of rules, and in the output each rule's six words; the last rule asserts the whole formula.
-#[unsafe(no_mangle)]
-pub extern "C" fn pasturequill_translate(records: &[u8], atoms: u64, rules: &mut [u16]) -> Counted
+pub fn pasturequill_translate(records: &[u8], atoms: u64, rules: &mut [u16]) -> Counted
     ensures refusal { result.refusal ≡ (translate_answer records.now atoms (length rules.old)).refusal }
     ensures count { result.count ≡ (translate_answer records.now atoms (length rules.old)).count }
     ensures words { rules.new ≡ translate_after records.now atoms rules.old }
@@ -55,8 +51,7 @@ pub extern "C" fn pasturequill_translate(records: &[u8], atoms: u64, rules: &mut
 }
 
 // Judge: whether every rule holds at all its instants of a filled trace, and else the first rule that fails and its first failing instant.
-#[unsafe(no_mangle)]
-pub extern "C" fn pasturequill_judge(
+pub fn pasturequill_judge(
     rules: &[u16],
     width: u64,
     instants: u64,
@@ -71,8 +66,7 @@ pub extern "C" fn pasturequill_judge(
 }
 
 // Write text: the number of bytes of the formula's text, and in the output this text.
-#[unsafe(no_mangle)]
-pub extern "C" fn pasturequill_write_text(records: &[u8], atoms: u64, text: &mut [u8]) -> Counted
+pub fn pasturequill_write_text(records: &[u8], atoms: u64, text: &mut [u8]) -> Counted
     ensures refusal { result.refusal ≡ (write_answer records.now atoms (length text.old)).refusal }
     ensures count { result.count ≡ (write_answer records.now atoms (length text.old)).count }
     ensures bytes { text.new ≡ write_after records.now atoms text.old }
@@ -81,8 +75,7 @@ pub extern "C" fn pasturequill_write_text(records: &[u8], atoms: u64, text: &mut
 }
 
 // Read text: the number of records of the formula whose text this is, and in the output these records in postorder.
-#[unsafe(no_mangle)]
-pub extern "C" fn pasturequill_read_text(text: &[u8], atoms: u64, records: &mut [u8]) -> Counted
+pub fn pasturequill_read_text(text: &[u8], atoms: u64, records: &mut [u8]) -> Counted
     ensures refusal { result.refusal ≡ (read_answer text.now atoms (length records.old)).refusal }
     ensures count { result.count ≡ (read_answer text.now atoms (length records.old)).count }
     ensures bytes { records.new ≡ read_after text.now atoms records.old }

@@ -1,5 +1,7 @@
 #![tactic(auto)]
 
-fn main() {
-    listing::run();
+use std::io::Result;
+
+fn main(rt: HostRuntime) -> Result<()> {
+    listing::run(rt)
 }

@@ -1,0 +1,91 @@
+// The front door for C: each function is the one of its name in the crate `pasturequill`, with the same promise, under the symbol that
+// include/pasturequill.h declares.
+#![tactic(auto)]
+
+ghost use Rattle.std.specs.Prelude.{◌≡◌, length};
+ghost use Rattle.meaning.specs.Service.{check_answer, expand_answer, expand_after, value_answer, value_after, translate_answer, translate_after, judge_answer};
+ghost use Rattle.meaning.specs.Service.{write_answer, write_after, read_answer, read_after};
+
+use judge::Judged;
+use refusals::Counted;
+use value::Valued;
+
+// Check: 0 if the bytes are the records of a formula over `atoms` atoms, else the number of the first refusal that applies.
+#[unsafe(no_mangle)]
+pub extern "C" fn pasturequill_check(records: &[u8], atoms: u64) -> u8
+    ensures { result ≡ check_answer records.now atoms }
+{
+    pasturequill::pasturequill_check(records, atoms)
+}
+
+// Expand: the number of records of the formula in core kinds, and in the output these records in postorder, six bytes each.
+#[unsafe(no_mangle)]
+pub extern "C" fn pasturequill_expand(records: &[u8], atoms: u64, out: &mut [u8]) -> Counted
+    ensures refusal { result.refusal ≡ (expand_answer records.now atoms (length out.old)).refusal }
+    ensures count { result.count ≡ (expand_answer records.now atoms (length out.old)).count }
+    ensures bytes { out.new ≡ expand_after records.now atoms out.old }
+{
+    pasturequill::pasturequill_expand(records, atoms, out)
+}
+
+// Value: the whole formula's value at the first instant, and in the table each record's values, a row of `instants` bytes each.
+#[unsafe(no_mangle)]
+pub extern "C" fn pasturequill_value(
+    records: &[u8],
+    atoms: u64,
+    instants: u64,
+    cells: &[u8],
+    table: &mut [u8],
+) -> Valued
+    ensures refusal { result.refusal ≡ (value_answer records.now atoms instants cells.now (length table.old)).refusal }
+    ensures value { result.value ≡ (value_answer records.now atoms instants cells.now (length table.old)).value }
+    ensures table { table.new ≡ value_after records.now atoms instants cells.now table.old }
+{
+    pasturequill::pasturequill_value(records, atoms, instants, cells, table)
+}
+
+// Translate: the number of rules, and in the output each rule's six words; the last rule asserts the whole formula.
+#[unsafe(no_mangle)]
+pub extern "C" fn pasturequill_translate(records: &[u8], atoms: u64, rules: &mut [u16]) -> Counted
+    ensures refusal { result.refusal ≡ (translate_answer records.now atoms (length rules.old)).refusal }
+    ensures count { result.count ≡ (translate_answer records.now atoms (length rules.old)).count }
+    ensures words { rules.new ≡ translate_after records.now atoms rules.old }
+{
+    pasturequill::pasturequill_translate(records, atoms, rules)
+}
+
+// Judge: whether every rule holds at all its instants of a filled trace, and else the first rule that fails and its first failing instant.
+#[unsafe(no_mangle)]
+pub extern "C" fn pasturequill_judge(
+    rules: &[u16],
+    width: u64,
+    instants: u64,
+    cells: &[u8],
+) -> Judged
+    ensures refusal { result.refusal ≡ (judge_answer rules.now width instants cells.now).refusal }
+    ensures holds { result.holds ≡ (judge_answer rules.now width instants cells.now).holds }
+    ensures rule { result.rule ≡ (judge_answer rules.now width instants cells.now).rule }
+    ensures instant { result.instant ≡ (judge_answer rules.now width instants cells.now).instant }
+{
+    pasturequill::pasturequill_judge(rules, width, instants, cells)
+}
+
+// Write text: the number of bytes of the formula's text, and in the output this text.
+#[unsafe(no_mangle)]
+pub extern "C" fn pasturequill_write_text(records: &[u8], atoms: u64, text: &mut [u8]) -> Counted
+    ensures refusal { result.refusal ≡ (write_answer records.now atoms (length text.old)).refusal }
+    ensures count { result.count ≡ (write_answer records.now atoms (length text.old)).count }
+    ensures bytes { text.new ≡ write_after records.now atoms text.old }
+{
+    pasturequill::pasturequill_write_text(records, atoms, text)
+}
+
+// Read text: the number of records of the formula whose text this is, and in the output these records in postorder.
+#[unsafe(no_mangle)]
+pub extern "C" fn pasturequill_read_text(text: &[u8], atoms: u64, records: &mut [u8]) -> Counted
+    ensures refusal { result.refusal ≡ (read_answer text.now atoms (length records.old)).refusal }
+    ensures count { result.count ≡ (read_answer text.now atoms (length records.old)).count }
+    ensures bytes { records.new ≡ read_after text.now atoms records.old }
+{
+    pasturequill::pasturequill_read_text(text, atoms, records)
+}
