@@ -32,6 +32,7 @@ fn same_rows(u: u16, v: u16) -> Rows
 }
 
 // x is the greater of u and v under a diamond, the smaller under a box.
+#[tactic(auto, unfolding(meaning::specs::Translation::join_rules, records::specs::Code::mode_of))]
 fn join_rows(mode: u8, x: u16, u: u16, v: u16) -> Rows
     ensures { result ≡ rows_of (join_rules (mode_of mode) x u v) }
 {
@@ -52,6 +53,7 @@ fn join_rows(mode: u8, x: u16, u: u16, v: u16) -> Rows
 }
 
 // x is c after the test of a.
+#[tactic(auto, unfolding(meaning::specs::Translation::test_rules, records::specs::Code::mode_of))]
 fn test_rows(mode: u8, x: u16, a: u16, c: u16) -> Rows
     requires { Small a × Small c }
     ensures { result ≡ rows_of (test_rules (mode_of mode) x a c) }
@@ -75,6 +77,7 @@ fn test_rows(mode: u8, x: u16, a: u16, c: u16) -> Rows
 }
 
 // The edge rule at a place: under a diamond x is false there, under a box it is true.
+#[tactic(auto, unfolding(meaning::specs::Translation::edge_rule, records::specs::Code::mode_of))]
 fn edge_row(mode: u8, place: u16, x: u16) -> Row
     ensures { result ≡ row_of (edge_rule (mode_of mode) place x) }
 {
@@ -98,6 +101,7 @@ fn moving_rows(u: u16, v: u16, mode: u8, place: u16, x: u16) -> Rows
 }
 
 // Step: x is c at the next instant; back step: c at the previous one. Where there is none, x is false under a diamond, true under a box.
+#[tactic(auto, unfolding(meaning::specs::Translation::move_rules, records::specs::Code::way_of))]
 fn move_rows(way: u8, mode: u8, x: u16, c: u16) -> Rows
     requires { Small x × Small c }
     ensures { result ≡ rows_of (move_rules (way_of way) (mode_of mode) x c) }

@@ -1,15 +1,10 @@
 -- `row_count` meets its contract: by the kind, and of a test by the mode.
-use Prim.Native.Nat.{ℕ, ◌<◌, ◌≤◌}
-use mathlib.Core.Path.{◌≡◌, refl}
-use mathlib.Core.Logic.{inl, inr, ◌≢◌}
-use native.Mathlib.Omega.{arith}
-use borrow.Author.Tests.{eq-eqb, ne_eqb}
+use Rattle.std.proofs.Common.{ℕ, ◌<◌, ◌≤◌, ◌≡◌, ◌≢◌, refl, inl, inr, arith, ne_eqb}
 use Rattle.meaning.specs.{Record.Mode, Record.kinds, Record.kind_of, Translation.rule_number}
 use Rattle.meaning.proofs.Bounds.{le_or_lt}
 use Rattle.records.specs.Code.{mode_of}
 use Rattle.records.proofs.Ranges.{stretch}
-use Rattle.rulings.proofs.row_count.Statement.{statement}
-use Rattle.rulings.proofs.row_count.Tie as tie
+use Rattle.rulings.proofs.row_count.Goals as goal
 
 -- A formula.
 two-rows : (n : ℕ) (m : Mode) → n < 5 → 2 ≡ rule_number (kind_of n) m
@@ -27,10 +22,20 @@ three-rows n m l h p q = elim (le_or_lt n 6) [
   ]
 ]
 
-pub row_count_spec : {M : Type 1} → statement M
+pub returns-then-kind-lt-STEP : goal.returns-then-kind-lt-STEP
+returns-then-kind-lt-STEP c = two-rows _ _ c.if-kind-lt-STEP.true
+
+pub returns-in-9 : goal.returns-in-9
+unfolding kind_of kinds rule_number
+returns-in-9 c = rw c.in-9.is
+
+pub returns-then-mode-eq-DIAMOND : goal.returns-then-mode-eq-DIAMOND
 unfolding kind_of kinds rule_number mode_of
-row_count_spec = tie.close (tie.spec
-    (λ c. two-rows _ _ c.if1.true) (λ c. rw c.match.keys1)
-    (λ c. rw (c.before.match.keys2, eq-eqb _ _ c.if2.true))
-    (λ c. rw (c.before.match.keys2, ne_eqb _ _ c.if2.false))
-    (λ c. let ((_, p9), p7) = c.match.rest in three-rows _ _ c.before.if1.false c.before.before.requires p7 p9))
+returns-then-mode-eq-DIAMOND c = rw (c.in-7.is, c.if-mode-eq-DIAMOND.true)
+
+pub returns-else-mode-eq-DIAMOND : goal.returns-else-mode-eq-DIAMOND
+unfolding kind_of kinds rule_number mode_of
+returns-else-mode-eq-DIAMOND c = rw (c.in-7.is, ne_eqb _ _ c.if-mode-eq-DIAMOND.false)
+
+pub returns-in_default : goal.returns-in_default
+returns-in_default c = three-rows _ _ (omega arith) c.requires (λ e. omega arith) (λ e. omega arith)
