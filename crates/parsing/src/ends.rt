@@ -92,6 +92,7 @@ fn is_digit(b: u8) -> bool
 }
 
 // Whether two bytes are the digits of a number from 10 to 31.
+#[tactic(auto, unfolding(meaning::specs::Text::two_digits))]
 fn two_digits_are(b: u8, c: u8) -> bool
     ensures { result ≡ two_digits b c }
 {
