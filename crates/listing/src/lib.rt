@@ -105,6 +105,7 @@ fn wide(w: u16) -> u64
 }
 
 // What comes after word j of a rule.
+#[tactic(auto, unfolding(crate::specs::Printed::gap))]
 fn gap(j: usize) -> u8
     ensures { result ≡ gap_after j }
 {

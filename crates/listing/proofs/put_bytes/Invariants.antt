@@ -1,0 +1,10 @@
+-- The first i bytes are copied, and the rest is as it was.
+use Rattle.std.proofs.Common.{◌≡◌, ◌≤◌, ◌-◌, length, take}
+use Rattle.std.proofs.lemmas.List.Edits.{sets}
+use Rattle.listing.proofs.put_bytes.Given as goal
+
+abbrev pub invariant-loop-i : goal.invariant-loop-i
+invariant-loop-i l = (l.i ≤ length l.bytes) × (l.out ≡ sets l.initial.out l.at (take l.i l.bytes))
+
+abbrev pub decreases-loop-i : goal.decreases-loop-i
+decreases-loop-i l = length l.bytes - l.i
