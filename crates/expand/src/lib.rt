@@ -53,6 +53,7 @@ fn expand_formula(records: &[u8], out: &mut [u8]) -> Counted
 }
 
 // 14: over 255 records; 10: no room for n records.
+#[tactic(auto, unfolding(meaning::specs::Refusal::of_first, meaning::specs::Refusal::ground14, meaning::specs::Refusal::ground10))]
 fn size_refusal(n: usize, room: usize) -> u8
     ensures { result ≡ first_of (size_grounds n room) }
 {

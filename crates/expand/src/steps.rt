@@ -25,6 +25,7 @@ pub const BYTE: u64 = 256;
 pub const DONE: u64 = 1;
 
 // The table of all rows. As an array it would be laid on the stack at every call.
+#[tactic(auto, unfolding(meaning::specs::Record::kinds, meaning::specs::Record::kind_of, crate::specs::Steps::steps_of, crate::specs::Steps::digits, crate::specs::Steps::form_steps, crate::specs::Steps::path_steps, meaning::specs::Shorthand::expansion, meaning::specs::Record::number_of))]
 pub fn row_of(kind: u8) -> u64
     ensures { result ≡ row_number (kind_of kind) }
 {
@@ -61,6 +62,7 @@ pub fn row_of(kind: u8) -> u64
 }
 
 // The record whose tree a step from PART_A on writes, in record r.
+#[tactic(auto, unfolding(crate::specs::Steps::part_of))]
 pub fn part_of(records: &[u8], r: usize, step: u8) -> usize
     requires { r < count records.now }
     ensures { result ≡ part_of step (field_a records.now r) (field_b records.now r) }
@@ -91,6 +93,7 @@ pub fn own_kind(step: u8) -> u8
 
 // Field a: the first of two children, which is the one before the second's tree; the only child, which is the record before; an atom's
 // number a.
+#[tactic(auto, unfolding(crate::specs::Steps::own_a, meaning::specs::Record::number_of))]
 pub fn own_a(step: u8, a: usize, under: usize, n: usize) -> usize
     ensures { result ≡ own_a step a under n }
 {
@@ -107,6 +110,7 @@ pub fn own_a(step: u8, a: usize, under: usize, n: usize) -> usize
 }
 
 // Field b: the second of two children, which is the record before.
+#[tactic(auto, unfolding(crate::specs::Steps::own_b))]
 pub fn own_b(step: u8, n: usize) -> usize
     ensures { result ≡ own_b step n }
 {
@@ -117,6 +121,7 @@ pub fn own_b(step: u8, n: usize) -> usize
 }
 
 // Where the second of two trees begins, after a step that began at number n: one that takes no tree for a child begins one.
+#[tactic(auto, unfolding(crate::specs::Steps::next_under))]
 pub fn next_under(step: u8, under: usize, n: usize) -> usize
     ensures { result ≡ next_under step under n }
 {
