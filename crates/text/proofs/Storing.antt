@@ -10,7 +10,7 @@ use lib.ListN.{length, get_or, take, drop, get_or-append}
 use lib.Seq.{sets}
 use borrow.Author.Tests.{lt-ltb, le-ltb, ltb-false, eq-eqb, ne_eqb, not-false}
 use Rattle.meaning.specs.Run.{each, written}
-use Rattle.meaning.specs.Record.{core, record_size, most_records, count}
+use Rattle.meaning.specs.Record.{core, record_size, most_records}
 use Rattle.meaning.specs.Formula.{Form, form_atoms}
 use Rattle.meaning.specs.Tree.{form_size, postorder}
 use Rattle.meaning.specs.Text.{whole_text, most_text, read, is_read, form_in}

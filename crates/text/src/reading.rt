@@ -30,6 +30,7 @@ pub fn read_text(text: &[u8], atoms: u64, records: &mut [u8]) -> Counted
 }
 
 // Of the text alone: 8, 14, 19.
+#[tactic(auto, unfolding(meaning::specs::Refusal::of_first, meaning::specs::Refusal::ground8, meaning::specs::Refusal::ground14_text, meaning::specs::Refusal::ground19))]
 fn text_refusal(text: &[u8], atoms: u64) -> u8
     ensures { result ≡ first_of (text_grounds text.now atoms) }
 {

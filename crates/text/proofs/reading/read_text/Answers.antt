@@ -1,0 +1,37 @@
+-- A refusal of the text decides, then the number of records, and else what is asked of them.
+use Rattle.std.proofs.Common.{ℕ, ◌≡◌, List, sym, ◌∙◌}
+use Rattle.meaning.specs.Refusal.{first_of}
+use Rattle.meaning.proofs.First.{Clear, none_clear}
+use Rattle.text.specs.Texting.{text_grounds}
+use Rattle.text.proofs.Storing.{read_refused, read_long, read_passed, text_numbered, text_clear}
+use Rattle.text.proofs.reading.read_text.Goals as goal
+
+-- What passed is the text of a formula.
+passed : (t : List ℕ) (A : ℕ) {x : ℕ} → x ≡ first_of (text_grounds t A) → x ≡ 0 → Clear (text_grounds t A)
+passed t A e z = none_clear _ (text_numbered _ _) (sym e ∙ z)
+
+pub returns-then-refusal-ne-ACCEPTED : goal.returns-then-refusal-ne-ACCEPTED
+returns-then-refusal-ne-ACCEPTED c =
+    let (refusal, (count, bytes)) = read_refused c.args.text.now c.args.atoms c.args.records.now _ c.text_refusal-refusal.ensures c.if-refusal-ne-ACCEPTED.true in
+    record { refusal = refusal; count = count; bytes = bytes }
+
+pub size_of-n-requires : goal.size_of-n-requires
+size_of-n-requires c = text_clear _ _ (passed c.args.text.now c.args.atoms c.text_refusal-refusal.ensures c.if-refusal-ne-ACCEPTED.false)
+
+pub returns-then-n-gt-MOST_RECORDS : goal.returns-then-n-gt-MOST_RECORDS
+returns-then-n-gt-MOST_RECORDS c =
+    let clear = passed c.args.text.now c.args.atoms c.text_refusal-refusal.ensures c.if-refusal-ne-ACCEPTED.false in
+    let (refusal, (count, bytes)) = read_long c.args.text.now c.args.atoms c.args.records.now clear (rw (← c.size_of-n.ensures) c.if-n-gt-MOST_RECORDS.true) in
+    record { refusal = refusal; count = count; bytes = bytes }
+
+pub read_formula-requires : goal.read_formula-requires
+read_formula-requires c =
+    let (short, formed) = text_clear _ _ (passed c.args.text.now c.args.atoms c.text_refusal-refusal.ensures c.if-refusal-ne-ACCEPTED.false) in
+    record { short = short; formed = formed; counts = c.size_of-n.ensures; few = c.if-n-gt-MOST_RECORDS.false }
+
+pub returns : goal.returns
+returns c =
+    let clear = passed c.args.text.now c.args.atoms c.text_refusal-refusal.ensures c.if-refusal-ne-ACCEPTED.false in
+    let (refusal, (count, bytes)) = read_passed c.args.text.now c.args.atoms c.args.records.now _ _ _ clear
+    (rw (← c.size_of-n.ensures) c.if-n-gt-MOST_RECORDS.false) c.read_formula.ensures in
+    record { refusal = refusal; count = count; bytes = bytes }
