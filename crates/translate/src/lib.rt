@@ -12,6 +12,7 @@ use refusals::Counted;
 use rules::RULE_SIZE;
 
 // The first refusal that applies; or the rules of the formula, six words each.
+#[tactic(auto, using(crate::proofs::RoomGrounds::accepted), unfolding(meaning::specs::Service::translate_answer, meaning::specs::Service::translate_after))]
 pub fn translate(records: &[u8], atoms: u64, out: &mut [u16]) -> Counted
     ensures refusal { result.refusal ≡ (translate_answer records.now atoms (length out.old)).refusal }
     ensures count { result.count ≡ (translate_answer records.now atoms (length out.old)).count }
