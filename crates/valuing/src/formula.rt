@@ -94,7 +94,8 @@ fn close(records: &[u8], p: usize, s: &mut Square, l: usize)
     requires { PathSquare records.now l p s.old }
     ensures { Holds l s.new (star_square l (at s.old)) }
 {
-    if layout::kind_at(records, p) == kind::STAR {
+    let star = layout::kind_at(records, p) == kind::STAR;
+    if star {
         return;
     }
     match one_way(records, p) {

@@ -5,12 +5,11 @@ use Rattle.valuing.proofs.Moved.{square_moving}
 use Rattle.valuing.proofs.Recursion.{square_low, star_closed}
 use Rattle.valuing.proofs.formula.close.Goals as goal
 
-pub kind_at-requires : goal.kind_at-requires
-kind_at-requires c = c.requires.asked.index
+pub kind_at-star-requires : goal.kind_at-star-requires
+kind_at-star-requires c = c.requires.asked.index
 
-pub returns-then-kind_at-eq-STAR : goal.returns-then-kind_at-eq-STAR
-returns-then-kind_at-eq-STAR c =
-    let w = c.requires in star_closed (w.asked, w.sort) c.kind_at.ensures c.if-kind_at-eq-STAR.true w.square
+pub returns-then-star : goal.returns-then-star
+returns-then-star c = let w = c.requires in star_closed (w.asked, w.sort) c.kind_at-star.ensures c.if-star.true w.square
 
 pub one_way-requires : goal.one_way-requires
 one_way-requires c = let w = c.requires.asked in ((_, w.legal.formed), w.index)
