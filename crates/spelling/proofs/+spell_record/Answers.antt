@@ -33,58 +33,69 @@ own_sign-own-requires t c = rw (c.kind_at-kind.ensures, c.field_a-a.ensures) (at
 -- ---- no part
 pub put_sign-requires : goal.put_sign-requires
 put_sign-requires t c =
-    rw (← none c.own_sign-own.result c.requires c.kind_at-kind.ensures c.field_a-a.ensures c.field_b-b.ensures c.own_sign-own.ensures c.use_a.ensures c.if-use_a-lt-FORMULA.true) c.requires.room
+    rw (← none c.own_sign-own.result c.requires c.kind_at-kind.ensures c.field_a-a.ensures c.field_b-b.ensures c.own_sign-own.ensures
+    c.use_a.ensures c.if-use_a-lt-FORMULA.true) c.requires.room
 
 pub returns-then-use_a-lt-FORMULA : goal.returns-then-use_a-lt-FORMULA
 returns-then-use_a-lt-FORMULA t c =
-    rw (none c.own_sign-own.result c.requires c.kind_at-kind.ensures c.field_a-a.ensures c.field_b-b.ensures c.own_sign-own.ensures c.use_a.ensures c.if-use_a-lt-FORMULA.true) c.put_sign.ensures
+    rw (none c.own_sign-own.result c.requires c.kind_at-kind.ensures c.field_a-a.ensures c.field_b-b.ensures c.own_sign-own.ensures
+    c.use_a.ensures c.if-use_a-lt-FORMULA.true) c.put_sign.ensures
 
 -- ---- one part
 pub put_sign-part-requires : goal.put_sign-part-requires
 put_sign-part-requires t c =
-    let g = one _ c.requires c.kind_at-kind.ensures c.field_a-a.ensures c.field_b-b.ensures c.own_sign-own.ensures c.use_a.ensures c.if-use_a-lt-FORMULA.false c.use_b.ensures c.if-use_b-lt-FORMULA.true in
+    let g = one _ c.requires c.kind_at-kind.ensures c.field_a-a.ensures c.field_b-b.ensures c.own_sign-own.ensures
+    c.use_a.ensures c.if-use_a-lt-FORMULA.false c.use_b.ensures c.if-use_b-lt-FORMULA.true in
     omega (arith, g.room)
 
 pub spell_record-requires : goal.spell_record-requires
 spell_record-requires t c =
-    let g = one _ c.requires c.kind_at-kind.ensures c.field_a-a.ensures c.field_b-b.ensures c.own_sign-own.ensures c.use_a.ensures c.if-use_a-lt-FORMULA.false c.use_b.ensures c.if-use_b-lt-FORMULA.true in
+    let g = one _ c.requires c.kind_at-kind.ensures c.field_a-a.ensures c.field_b-b.ensures c.own_sign-own.ensures
+    c.use_a.ensures c.if-use_a-lt-FORMULA.false c.use_b.ensures c.if-use_b-lt-FORMULA.true in
     part _ _ c.decreases c.requires g.first (omega (arith, g.room, c.put_sign-part.ensures.place))
 
 pub returns-then-use_b-lt-FORMULA : goal.returns-then-use_b-lt-FORMULA
 returns-then-use_b-lt-FORMULA t c =
-    let g = one _ c.requires c.kind_at-kind.ensures c.field_a-a.ensures c.field_b-b.ensures c.own_sign-own.ensures c.use_a.ensures c.if-use_a-lt-FORMULA.false c.use_b.ensures c.if-use_b-lt-FORMULA.true in
+    let g = one _ c.requires c.kind_at-kind.ensures c.field_a-a.ensures c.field_b-b.ensures c.own_sign-own.ensures
+    c.use_a.ensures c.if-use_a-lt-FORMULA.false c.use_b.ensures c.if-use_b-lt-FORMULA.true in
     rw g.text (append_more c.put_sign-part.ensures c.spell_record.ensures)
 
 -- ---- two parts
 pub put_sign-first-requires : goal.put_sign-first-requires
 put_sign-first-requires t c =
-    let g = two _ c.requires c.kind_at-kind.ensures c.field_a-a.ensures c.field_b-b.ensures c.own_sign-own.ensures c.use_a.ensures c.if-use_a-lt-FORMULA.false c.use_b.ensures c.if-use_b-lt-FORMULA.false in
+    let g = two _ c.requires c.kind_at-kind.ensures c.field_a-a.ensures c.field_b-b.ensures c.own_sign-own.ensures
+    c.use_a.ensures c.if-use_a-lt-FORMULA.false c.use_b.ensures c.if-use_b-lt-FORMULA.false in
     omega (arith, g.room)
 
 pub spell_record-between-requires : goal.spell_record-between-requires
 spell_record-between-requires t c =
-    let g = two _ c.requires c.kind_at-kind.ensures c.field_a-a.ensures c.field_b-b.ensures c.own_sign-own.ensures c.use_a.ensures c.if-use_a-lt-FORMULA.false c.use_b.ensures c.if-use_b-lt-FORMULA.false in
+    let g = two _ c.requires c.kind_at-kind.ensures c.field_a-a.ensures c.field_b-b.ensures c.own_sign-own.ensures
+    c.use_a.ensures c.if-use_a-lt-FORMULA.false c.use_b.ensures c.if-use_b-lt-FORMULA.false in
     part _ _ c.decreases c.requires g.first (omega (arith, g.room, c.put_sign-first.ensures.place))
 
 pub put_sign-second-requires : goal.put_sign-second-requires
 put_sign-second-requires t c =
-    let g = two _ c.requires c.kind_at-kind.ensures c.field_a-a.ensures c.field_b-b.ensures c.own_sign-own.ensures c.use_a.ensures c.if-use_a-lt-FORMULA.false c.use_b.ensures c.if-use_b-lt-FORMULA.false in
+    let g = two _ c.requires c.kind_at-kind.ensures c.field_a-a.ensures c.field_b-b.ensures c.own_sign-own.ensures
+    c.use_a.ensures c.if-use_a-lt-FORMULA.false c.use_b.ensures c.if-use_b-lt-FORMULA.false in
     omega (arith, g.room, c.put_sign-first.ensures.place, c.spell_record-between.ensures.place)
 
 pub spell_record-end-requires : goal.spell_record-end-requires
 spell_record-end-requires t c =
-    let g = two _ c.requires c.kind_at-kind.ensures c.field_a-a.ensures c.field_b-b.ensures c.own_sign-own.ensures c.use_a.ensures c.if-use_a-lt-FORMULA.false c.use_b.ensures c.if-use_b-lt-FORMULA.false in
+    let g = two _ c.requires c.kind_at-kind.ensures c.field_a-a.ensures c.field_b-b.ensures c.own_sign-own.ensures
+    c.use_a.ensures c.if-use_a-lt-FORMULA.false c.use_b.ensures c.if-use_b-lt-FORMULA.false in
     part _ _ c.decreases c.requires g.second
     (omega (arith, g.room, c.put_sign-first.ensures.place, c.spell_record-between.ensures.place, c.put_sign-second.ensures.place))
 
 pub put_sign-requires-2 : goal.put_sign-requires-2
 put_sign-requires-2 t c =
-    let g = two _ c.requires c.kind_at-kind.ensures c.field_a-a.ensures c.field_b-b.ensures c.own_sign-own.ensures c.use_a.ensures c.if-use_a-lt-FORMULA.false c.use_b.ensures c.if-use_b-lt-FORMULA.false in
+    let g = two _ c.requires c.kind_at-kind.ensures c.field_a-a.ensures c.field_b-b.ensures c.own_sign-own.ensures
+    c.use_a.ensures c.if-use_a-lt-FORMULA.false c.use_b.ensures c.if-use_b-lt-FORMULA.false in
     omega (arith, g.room, c.put_sign-first.ensures.place, c.spell_record-between.ensures.place, c.put_sign-second.ensures.place, c.spell_record-end.ensures.place)
 
 pub returns : goal.returns
 returns t c =
-    let g = two _ c.requires c.kind_at-kind.ensures c.field_a-a.ensures c.field_b-b.ensures c.own_sign-own.ensures c.use_a.ensures c.if-use_a-lt-FORMULA.false c.use_b.ensures c.if-use_b-lt-FORMULA.false in
+    let g = two _ c.requires c.kind_at-kind.ensures c.field_a-a.ensures c.field_b-b.ensures c.own_sign-own.ensures
+    c.use_a.ensures c.if-use_a-lt-FORMULA.false c.use_b.ensures c.if-use_b-lt-FORMULA.false in
     rw g.text
     (append_more c.put_sign-first.ensures
     (append_more c.spell_record-between.ensures

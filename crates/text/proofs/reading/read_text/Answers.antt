@@ -1,5 +1,5 @@
 -- A refusal of the text decides, then the number of records, and else what is asked of them.
-use Rattle.std.proofs.Common.{ℕ, ◌≡◌, List, sym, ◌∙◌}
+use Rattle.std.proofs.Common.{ℕ, ◌≡◌, List, sym, ◌∙◌, arith}
 use Rattle.meaning.specs.Refusal.{first_of}
 use Rattle.meaning.proofs.First.{Clear, none_clear}
 use Rattle.text.specs.Texting.{text_grounds}
@@ -21,17 +21,17 @@ size_of-n-requires c = text_clear _ _ (passed c.args.text.now c.args.atoms c.tex
 pub returns-then-n-gt-MOST_RECORDS : goal.returns-then-n-gt-MOST_RECORDS
 returns-then-n-gt-MOST_RECORDS c =
     let clear = passed c.args.text.now c.args.atoms c.text_refusal-refusal.ensures c.if-refusal-ne-ACCEPTED.false in
-    let (refusal, (count, bytes)) = read_long c.args.text.now c.args.atoms c.args.records.now clear (rw (← c.size_of-n.ensures) c.if-n-gt-MOST_RECORDS.true) in
+    let (refusal, (count, bytes)) = read_long c.args.text.now c.args.atoms c.args.records.now clear (omega (arith, c.size_of-n.ensures)) in
     record { refusal = refusal; count = count; bytes = bytes }
 
 pub read_formula-requires : goal.read_formula-requires
 read_formula-requires c =
     let (short, formed) = text_clear _ _ (passed c.args.text.now c.args.atoms c.text_refusal-refusal.ensures c.if-refusal-ne-ACCEPTED.false) in
-    record { short = short; formed = formed; counts = c.size_of-n.ensures; few = c.if-n-gt-MOST_RECORDS.false }
+    record { short = short; formed = formed; counts = c.size_of-n.ensures; few = omega arith }
 
 pub returns : goal.returns
 returns c =
     let clear = passed c.args.text.now c.args.atoms c.text_refusal-refusal.ensures c.if-refusal-ne-ACCEPTED.false in
     let (refusal, (count, bytes)) = read_passed c.args.text.now c.args.atoms c.args.records.now _ _ _ clear
-    (rw (← c.size_of-n.ensures) c.if-n-gt-MOST_RECORDS.false) c.read_formula.ensures in
+    (omega (arith, c.size_of-n.ensures)) c.read_formula.ensures in
     record { refusal = refusal; count = count; bytes = bytes }
