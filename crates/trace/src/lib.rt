@@ -35,6 +35,7 @@ fn wide(most: u16) -> u64
 }
 
 // 9: a cell over 2. The greatest is found with no exit from the loop, so that the compiler makes vector instructions of it.
+#[tactic(auto, using(crate::proofs::Highest::refused_high, crate::proofs::Highest::passed_low))]
 pub fn cells_refusal(cells: &[u8]) -> u8
     ensures { result ≡ first_of (grounds9 cells.now) }
 {
