@@ -1,9 +1,10 @@
 -- Counts of places, up to two. A field adds one to the count of the record that it has as its child, and nothing to the
 -- others. So the counts after a record more are those before with both fields added, and at the end a count is 1 exactly
 -- where the record is the child of one place.
-use Prim.Native.Nat.{ℕ, zero, suc, ◌+◌, ◌<◌, ◌≤◌, min}
+use Prim.Native.Nat.{ℕ, zero, suc, pred, ◌+◌, ◌<◌, ◌≤◌, min}
 use mathlib.Core.Path.{◌≡◌, refl, sym, ◌∙◌}
 use mathlib.Core.List.{List, [], ◌∷◌}
+use mathlib.Core.Logic.{◌⊎◌, inl, inr}
 use native.Mathlib.Decide.{ℕ_discrete}
 use native.Mathlib.Numerals.{add-one}
 use native.Mathlib.Omega.{arith}
@@ -12,7 +13,8 @@ use lib.ListN.{length, get_or, set, replicate, length-set, get_or-replicate}
 use lib.Seq.{get_or-set_same, get_or-set_other}
 use Rattle.meaning.specs.Record.{Use, unused, atomNumber, child, count, most_records, names, uses, places_in}
 use Rattle.meaning.specs.Refusal.{of_first, first_of, ground7}
-use Rattle.meaning.proofs.First.{Clear}
+use Rattle.meaning.specs.Run.{each}
+use Rattle.meaning.proofs.First.{Clear, scan_none, scan_more, scan_found, scan_done}
 use Rattle.shapes.specs.Uses.{use_of}
 use Rattle.checks.specs.Places.{field_grounds, Places, FieldTaken}
 use Rattle.checks.proofs.Fields.{Read, use_again}
@@ -74,12 +76,30 @@ more read p first second none-a none-b = record {
       rw add-one (omega arith);
 }
 
--- ---- the count of a record says whether ground 7 applies to it
-module _ {s counts : List ℕ} {r : ℕ} (p : Places s (count s) counts) (h : r < most_records) where
-  pub single : get_or counts r 0 ≡ 1 → Clear (ground7 s r ∷ [])
-  unfolding ground7
-  single e = (rw (eq-eqb (places_in s r (count s)) 1 (omega (arith, p.counted r h))), tt)
+-- ---- a scan for ground 7: each record before r is the child of one place
+pub record Passed (s : List ℕ) (r : ℕ) : Type 0 where
+  pub clear : Clear (each r (λ i. ground7 s i ∷ []))
 
-  pub not_single : (get_or counts r 0 ≡ 1 → ⊥) → 7 ≡ first_of (ground7 s r ∷ [])
-  unfolding ground7 of_first
-  not_single q = rw (ne_eqb (places_in s r (count s)) 1 (λ e. q (omega (arith, p.counted r h))))
+pub passed_none : {s : List ℕ} → Passed s 0
+passed_none = record { clear = scan_none _ }
+
+-- Record r is too, if its count is 1.
+pub passed_more : {s counts : List ℕ} {r : ℕ} → Passed s r → Places s (count s) counts → r < most_records → get_or counts r 0 ≡ 1
+    → Passed s (r + 1)
+unfolding ground7
+passed_more {s} {counts} {r} past p h e = record {
+  clear = scan_more _ _ past.clear (rw (eq-eqb (places_in s r (count s)) 1 (omega (arith, p.counted r h))), tt);
+}
+
+-- Record r is too, or ground 7 applies to it first.
+pub passed_or : {s : List ℕ} {r : ℕ} → Passed s r → r < pred (count s)
+    → (places_in s r (count s) ≡ 1) ⊎ (7 ≡ first_of (each (pred (count s)) (λ i. ground7 s i ∷ [])))
+unfolding ground7 of_first
+passed_or {s} {r} past l = elim (ℕ_discrete (places_in s r (count s)) 1) [
+  | yes e ↦ inl e
+  | no q ↦ inr (scan_found _ _ _ l past.clear (rw (ne_eqb _ 1 q)) (λ z. omega arith))
+]
+
+pub passed_done : {s : List ℕ} {r : ℕ} → Passed s r → r ≡ pred (count s)
+    → 0 ≡ first_of (each (pred (count s)) (λ i. ground7 s i ∷ []))
+passed_done past e = scan_done _ _ _ e past.clear

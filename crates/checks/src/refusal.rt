@@ -135,6 +135,7 @@ fn records_refusal(s: &[u8], language: u8, atoms: u64, counts: &mut Counts) -> u
 }
 
 // 7: a record before the last isn't the child of one place.
+#[tactic(auto, using(crate::proofs::Counting::passed_none, crate::proofs::Counting::passed_more, crate::proofs::Counting::passed_or, crate::proofs::Counting::passed_done))]
 fn places_refusal(s: &[u8], counts: &Counts) -> u8
     requires { (0 < count s.now) × (count s.now ≤ most_records) × Places s.now (count s.now) counts.now }
     ensures { result ≡ first_of (each (pred (count s.now)) (λ q. ground7 s.now q ∷ [])) }
