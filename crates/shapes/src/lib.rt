@@ -17,6 +17,7 @@ pub const FORMULA: u8 = 2;
 pub const PATH: u8 = 3;
 
 // What field a holds, by kind. A table would be laid on the stack at each call.
+#[tactic(auto, using(crate::proofs::Stretches::fields_a))]
 pub fn use_a(kind: u8) -> u8
     ensures { result ≡ use_code (use_a (kind_of kind)) }
 {
@@ -29,6 +30,7 @@ pub fn use_a(kind: u8) -> u8
 }
 
 // What field b holds.
+#[tactic(auto, using(crate::proofs::Stretches::fields_b))]
 pub fn use_b(kind: u8) -> u8
     ensures { result ≡ use_code (use_b (kind_of kind)) }
 {
@@ -41,6 +43,7 @@ pub fn use_b(kind: u8) -> u8
 }
 
 // The sort of a record, numbered as the fields that hold such a child are.
+#[tactic(auto, using(crate::proofs::Stretches::sorts))]
 pub fn sort_of(kind: u8) -> u8
     ensures { result ≡ sort_code (sort_of (kind_of kind)) }
 {
@@ -56,6 +59,7 @@ pub const CORE: u8 = 0;
 pub const FULL: u8 = 1;
 
 // Whether the kind is one of the language.
+#[tactic(auto, using(crate::proofs::Stretches::languages))]
 pub fn takes(language: u8, kind: u8) -> bool
     ensures { result ≡ known (language_of language) (kind_of kind) }
 {
