@@ -19,15 +19,12 @@ use_again atomNumber = refl
 use_again (child formula) = refl
 use_again (child path) = refl
 
-code_small : (held : Use) → use_code held ≤ 3
+pub code_small : (held : Use) → use_code held ≤ 3
 unfolding use_code sort_code
 code_small unused = omega arith
 code_small atomNumber = omega arith
 code_small (child formula) = omega arith
 code_small (child path) = omega arith
-
-pub small : (held : Use) {u : ℕ} → u ≡ use_code held → u ≤ 3
-small held e = rw e (code_small held)
 
 -- The fields of record r as the code reads them.
 pub record Read (s : List ℕ) (r ua ub a b : ℕ) : Type 0 where

@@ -88,6 +88,7 @@ fn sooner(x: u8, y: u8) -> u8
 }
 
 // The first of 3 to 6 that applies to a field of record r. If none does, its children are counted.
+#[tactic(auto, using(crate::proofs::Fields::code_small))]
 fn fields_refusal(s: &[u8], atoms: u64, counts: &mut Counts, r: usize, kind: u8) -> u8
     requires { (r < count s.now) × (count s.now ≤ most_records) × (kind ≡ kind_byte s.now r) × Places s.now r counts.old }
     ensures { Taken (fields_grounds s.now atoms r) s.now (r + 1) counts.new result }

@@ -1,17 +1,9 @@
 -- The sooner of the fields' refusals is the record's; where there is none, both fields' children are counted.
 use Rattle.std.proofs.Common.{sym, ◌∙◌}
-use Rattle.checks.proofs.Fields.{Read, small}
+use Rattle.checks.proofs.Fields.{Read}
 use Rattle.checks.proofs.Order.{by_fields, none_sooner}
 use Rattle.checks.proofs.Counting.{more}
 use Rattle.checks.proofs.refusal.fields_refusal.Goals as goal
-
-pub field_refusal-x-requires : goal.field_refusal-x-requires
-field_refusal-x-requires c =
-    (c.requires.0, c.requires.1, small _ (rw c.requires.2 at c.use_a-ua.ensures), c.requires.3.size)
-
-pub field_refusal-y-requires : goal.field_refusal-y-requires
-field_refusal-y-requires c =
-    (c.requires.0, c.requires.1, small _ (rw c.requires.2 at c.use_b-ub.ensures), c.field_refusal-x.ensures.size)
 
 pub returns : goal.returns
 returns c =
