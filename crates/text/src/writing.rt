@@ -34,6 +34,7 @@ fn formula_refusal(records: &[u8], atoms: u64) -> u8
 }
 
 // 18: a back step, which has no sign.
+#[tactic(auto, using(crate::proofs::Numbers::backless_none, crate::proofs::Numbers::backless_more, crate::proofs::Numbers::backless_found, crate::proofs::Numbers::backless_done,),)]
 fn back_refusal(records: &[u8]) -> u8
     ensures { result ≡ first_of (back_grounds records.now) }
 {
