@@ -93,7 +93,7 @@ fn is_digit(b: u8) -> bool
 
 // Whether two bytes are the digits of a number from 10 to 31.
 #[tactic(auto, unfolding(meaning::specs::Text::two_digits))]
-fn two_digits_are(b: u8, c: u8) -> bool
+fn two_digits(b: u8, c: u8) -> bool
     ensures { result ≡ two_digits b c }
 {
     if b < b'1' {
@@ -135,7 +135,7 @@ pub fn number_at(text: &[u8], at: usize) -> Atom
 {
     let b = byte_at(text, at);
     let c = byte_at(text, at + 1);
-    if two_digits_are(b, c) {
+    if two_digits(b, c) {
         return Atom {
             end: at + 2,
             value: number(b, c),

@@ -4,22 +4,22 @@ use Rattle.parsing.proofs.Numbers.{digit_low, two_low, numbered_two, numbered_on
 use Rattle.parsing.proofs.ends.number_at.Goals as goal
 
 pub number-requires : goal.number-requires
-number-requires c = two_low _ _ (sym c.two_digits_are.ensures ∙ c.if-two_digits_are.true)
+number-requires c = two_low _ _ (sym c.two_digits.ensures ∙ c.if-two_digits.true)
 
 pub value-requires : goal.value-requires
 value-requires c = digit_low _ (sym c.is_digit.ensures ∙ c.if-is_digit.true)
 
-pub returns-then-two_digits_are : goal.returns-then-two_digits_are
-returns-then-two_digits_are c =
+pub returns-then-two_digits : goal.returns-then-two_digits
+returns-then-two_digits c =
     numbered_two _ _ c.requires _ _ c.byte_at-b.ensures.0 c.byte_at-c.ensures.0
-    (sym c.two_digits_are.ensures ∙ c.if-two_digits_are.true) c.number.ensures
+    (sym c.two_digits.ensures ∙ c.if-two_digits.true) c.number.ensures
 
 pub returns-then-is_digit : goal.returns-then-is_digit
 returns-then-is_digit c =
     numbered_one _ _ c.requires _ _ c.byte_at-b.ensures.0 c.byte_at-c.ensures.0
-    (sym c.two_digits_are.ensures ∙ c.if-two_digits_are.false) (sym c.is_digit.ensures ∙ c.if-is_digit.true) c.value.ensures
+    (sym c.two_digits.ensures ∙ c.if-two_digits.false) (sym c.is_digit.ensures ∙ c.if-is_digit.true) c.value.ensures
 
 pub returns : goal.returns
 returns c =
     numbered_none _ _ c.requires _ _ c.byte_at-b.ensures.0 c.byte_at-c.ensures.0
-    (sym c.two_digits_are.ensures ∙ c.if-two_digits_are.false) (sym c.is_digit.ensures ∙ c.if-is_digit.false)
+    (sym c.two_digits.ensures ∙ c.if-two_digits.false) (sym c.is_digit.ensures ∙ c.if-is_digit.false)

@@ -4,7 +4,7 @@ use borrow.Author.Tests.{le-leb}
 use Rattle.meaning.specs.Text.{two_digits}
 use Rattle.parsing.specs.Places.{nought}
 use Rattle.parsing.proofs.Numbers.{digit_low, not_two}
-use Rattle.parsing.proofs.ends.two_digits_are.Goals as goal
+use Rattle.parsing.proofs.ends.two_digits.Goals as goal
 
 pub number-requires : goal.number-requires
 number-requires c = (omega arith, digit_low _ (sym c.is_digit.ensures ∙ c.if-is_digit.true))
