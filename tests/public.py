@@ -29,8 +29,9 @@ def public_functions():
                 yield "::".join(parts), parts, found[2]
 
 def contracts(crate):
-    """Each public function of a crate's lib.rt with its parameters and clauses."""
-    return dict(FUNCTION.findall((ROOT / "crates" / crate / "src/lib.rt").read_text()))
+    """Each public function of a crate's lib.rt with its parameters and clauses, however they are laid out."""
+    found = FUNCTION.findall((ROOT / "crates" / crate / "src/lib.rt").read_text())
+    return {name: " ".join(re.sub(r",?\s*\)", ")", re.sub(r"\(\s*", "(", text)).split()) for name, text in found}
 
 def main():
     outcomes = (ROOT / "crates/outcomes/specs/OneOutcome.antt").read_text()

@@ -51,12 +51,7 @@ pub fn pasturequill_translate(records: &[u8], atoms: u64, rules: &mut [u16]) -> 
 }
 
 // Judge: whether every rule holds at all its instants of a filled trace, and else the first rule that fails and its first failing instant.
-pub fn pasturequill_judge(
-    rules: &[u16],
-    width: u64,
-    instants: u64,
-    cells: &[u8],
-) -> Judged
+pub fn pasturequill_judge(rules: &[u16], width: u64, instants: u64, cells: &[u8]) -> Judged
     ensures refusal { result.refusal ≡ (judge_answer rules.now width instants cells.now).refusal }
     ensures holds { result.holds ≡ (judge_answer rules.now width instants cells.now).holds }
     ensures rule { result.rule ≡ (judge_answer rules.now width instants cells.now).rule }
