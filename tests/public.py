@@ -11,7 +11,7 @@ ROOT = pathlib.Path(__file__).resolve().parent.parent
 NO_OUTCOME = {"listing::run"}
 # No crate can cite a static library, so what this one exports has no fields: its contracts are those of the front door, word for word.
 FRONT_DOOR, EXPORTED = "pasturequill", "pasturequill_c"
-FUNCTION = re.compile(r'^pub (?:extern "C" )?fn (\w+)(.*?)(?:^\{|\) \{$)', re.M | re.S)
+FUNCTION = re.compile(r'^pub (?:extern "C" )?fn (\w+)(.*?)(?:^\{|\{$)', re.M | re.S)
 
 def public_functions():
     """Yields (path by crates, path in proofs, contract) of each."""

@@ -2,8 +2,8 @@
 -- it keeps on the way.
 --   field_grounds s A r held v      the conditions 3 to 6 on one field of record r, which holds that and has v in it
 --   fields_grounds s A r            those on both
---   sooner x y                     of two refusals the one with the lesser number; 0 is none
---   Places s m counts              count i is in how many places of the first m records record i is the child, two or more where it says 2
+--   sooner x y                      of two refusals the one with the lesser number; 0 is none
+--   Places s m counts               count i is in how many places of the first m records record i is the child, two or more where it says 2
 --   FieldTaken s A r u v old new x x is the field's first refusal; where it is 0, the field's child is counted
 --   Taken gs s m counts x          x is the first of the refusals gs; where it is 0, the counts are those of the first m records
 use Rattle.std.specs.Prelude.{ℕ, ◌+◌, ◌<◌, ◌≤◌, min, ◌≡◌, cond, ◌||◌, List, [], ◌∷◌, eqb, length, get_or}

@@ -1,6 +1,6 @@
 -- Contexts as words in an array.
 --   packed u                 the word of the context u: 256 times the number of the modality's kind, and the continuation
---   contexts_of s             an entry for each record: a path's context, 0 for a formula
+--   contexts_of s            an entry for each record: a path's context, 0 for a formula
 --   Entered s contexts r     the array has record r's entry
 --   PathUnder s p r          the path record r is p or a part of p, with no test in between
 --   Given s p own contexts   record p is a path of a formula, `own` is the word of its context, and the array has every place

@@ -2,8 +2,8 @@
 --   Filled ws W L cells        rules in form over W columns, and a filled trace
 --   Lookable ρ W cells k       a rule in form, and an instant whose row a filled trace has
 --   six ..                     the rule of six words
---   start_of L place            the first instant of a place
---   end_of L place              the instant after its last
+--   start_of L place           the first instant of a place
+--   end_of L place             the instant after its last
 --   Gives refusal .. answer    the four numbers are the answer's
 use Rattle.std.specs.Prelude.{ℕ, ◌+◌, ◌*◌, ◌-◌, ◌<◌, ◌≤◌, ◌≡◌, false, cond, List, length, get_or, eqb}
 use Rattle.meaning.specs.Rule.{Rule, rule_at}

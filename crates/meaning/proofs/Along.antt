@@ -3,7 +3,7 @@
 -- move, the stretch from the instant at hand to the end of the trace solves it: a stretch is its first instant and the rest, or its last
 -- instant and those before. Until at k is G there, or F there and until at the next instant; since at k is G there, or F there and since
 -- at the previous instant. What another instant adds is after the same test of F in all of them, so the test stands before their greatest.
---   over_in m a b f          the greatest of f over the instants a .. b - 1 under a diamond, the least under a box
+--   over_in m a b f         the greatest of f over the instants a .. b - 1 under a diamond, the least under a box
 --   shifted w L f k else    f at the instant beside k in the way w; `else` where there is none
 use Prim.Native.Nat.{ℕ, zero, suc, ◌+◌, ◌-◌, ◌≤◌, ◌<◌, min, max, pred, zero-le}
 use mathlib.Core.Path.{◌≡◌, refl, sym, ap, ◌∙◌}

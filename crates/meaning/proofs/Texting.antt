@@ -5,7 +5,6 @@ use mathlib.Core.Path.{◌≡◌, refl, sym}
 use mathlib.Core.Bool.{true, false, true≢false}
 use mathlib.Core.Logic.{◌↔◌, inl, inr}
 use mathlib.Core.List.{List, ◌++◌}
-use mathlib.Core.Option.{some}
 use native.Mathlib.Nat.{le_refl}
 use native.Mathlib.Omega.{arith}
 use lib.ListN.{length, length-append}

@@ -98,7 +98,7 @@ infix 20 ◌when◌
 abbrev pub ◌when◌ : Reason → Type 0 → Reason → Type 0
 (σ when P) ρ = (ρ ≡ σ) × P
 
--- Of a trace with rows of 𝓛 cells, at most `most`; and of its cells.
+-- Of a trace with rows of W cells, at most `most`; and of its cells.
 abbrev pub WrongSize : ℕ → ℕ → ℕ → List ℕ → Type 0
 WrongSize most W L cells = (most < W) ⊎ (L ≡ 0) ⊎ (most_instants < L) ⊎ (length cells ≢ W * L)
 

@@ -87,7 +87,7 @@ unfoldable pub ground7 : List ℕ → ℕ → Ground
 ground7 s r = ground 7 (not (eqb (places s r) 1))
 
 -- ---- sizes and cells
--- 8: too many atoms; and, where there is a trace, L not 1 to 32 or cells of the wrong length. The judge's width 𝓛 is 0 to 287.
+-- 8: too many atoms; and, where there is a trace, L not 1 to 32 or cells of the wrong length. The judge's width W is 0 to 287.
 abbrev pub most_atoms : ℕ
 most_atoms = 32
 
@@ -133,7 +133,7 @@ unfoldable pub ground12 : List ℕ → ℕ → Ground
 ground12 s r = ground 12 (is_star (kind_at s r) && (goes ahead (path_at s (field_a s r)) && goes back (path_at s (field_a s r))))
 
 -- ---- the judge's rules
--- 13: the words are not a multiple of 6 or over 6,126; a place over 3, a symbol 2 + 𝓛 or more, or previous outside place 2.
+-- 13: the words are not a multiple of 6 or over 6,126; a place over 3, a symbol 2 + W or more, or previous outside place 2.
 abbrev pub most_rules : ℕ
 most_rules = 1_021
 

@@ -1,7 +1,7 @@
 -- Specification, Translation: rules as six words, and when a rule holds.
 --   rule place body head    a rule; words that it leaves unused hold 1 in the body and 0 in the head
 --   words rules             the six words of each, end to end
---   rule_at ws i             rule i of the words ws
+--   rule_at ws i            rule i of the words ws
 --   placed L place k        whether the place has the instant k, of L
 --   literal cell w k        the value of the literal w at instant k; symbol 2 + i is column i, cell k i
 --   holds cell ρ k          whether the rule ρ holds at instant k

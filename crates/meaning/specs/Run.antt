@@ -2,7 +2,7 @@
 --   each n f          the lists f 0, f 1 .. f (n - 1), end to end
 --   tabulate n f      the numbers f 0, f 1 .. f (n - 1)
 --   written new old   the buffer `old` with `new` at its start and the rest as it was
---   cell_of W cells    cell i of row k, where each row has W cells
+--   cell_of W cells   cell i of row k, where each row has W cells
 use Rattle.std.specs.Prelude.{ℕ, zero, suc, ◌+◌, ◌*◌, List, [], ◌∷◌, ◌++◌, length, get_or, drop}
 
 unfoldable pub each : {T : Type 0} → ℕ → (ℕ → List T) → List T

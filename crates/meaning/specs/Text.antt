@@ -1,9 +1,9 @@
 -- Specification, Text: a core formula as text, in the signs of source 004's Table 2.
---   ascii t, decimal n       the bytes of the text t; the number n in decimal
+--   ascii t, decimal n        the bytes of the text t; the number n in decimal
 --   spell F, spell_path P     how they are spelled: every diamond, box, choice and sequence stands in brackets
 --   whole_text s              the text of the formula that the records s are
---   Spells F t               t is the text of F: F has no back step, which the table has no sign for, and only the atoms p0 to p31
---   read t                   the formula whose text t is, or none: proofs/Spelling shows that it undoes the spelling
+--   Spells F t                t is the text of F: F has no back step, which the table has no sign for, and only the atoms p0 to p31
+--   read t                    the formula whose text t is, or none: proofs/Spelling shows that it undoes the spelling
 --   form_in t                 that formula, where there is one
 use Prim.Native.Char.{code}
 use Rattle.std.specs.Prelude.{ℕ, zero, suc, pred, ◌+◌, ◌*◌, ◌-◌, ◌/◌, ◌%◌, ◌≤◌, ◌≡◌, Bool, true, false, cond, ◌&&◌, List, [], ◌∷◌, ◌++◌, length, leb, ltb, eqb}

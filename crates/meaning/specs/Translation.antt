@@ -1,8 +1,8 @@
 -- Specification, Translation: the rules of each record, and of the whole formula.
 --   label A r           the symbol of record r's label
 --   context s r         what the path record r stands under: the modality's mode, and the record whose label continues it
---   rules_of ..          the rules of one record
---   other_rules s A      all rules but the one that asserts the whole formula
+--   rules_of ..         the rules of one record
+--   other_rules s A     all rules but the one that asserts the whole formula
 --   translation s A     all rules; the last asserts the whole formula
 --   rule_number, rule_sum how many rules come from one record, and from the first n
 use Rattle.std.specs.Prelude.{ℕ, zero, suc, pred, ◌+◌, Bool, true, false, cond, List, [], ◌∷◌, ◌++◌, eqb}

@@ -1,7 +1,7 @@
 -- Specification, Records: the tree that a record stands for, and a tree written as records in postorder.
 --   form_at s r, path_at s r    the formula, or the path, of record r, with its shorthands written out
 --   form_size F, path_size P    how many records they take
---   postorder F               the records of F: those of a, those of b, then the parent
+--   postorder F                 the records of F: those of a, those of b, then the parent
 use Rattle.std.specs.Prelude.{ℕ, zero, suc, pred, ◌+◌, false, List, [], ◌∷◌, ◌++◌, get_or}
 use Rattle.meaning.specs.Record.{Kind, ahead, kind_at, field_a, field_b, record_bytes}
 use Rattle.meaning.specs.Formula.{Form, Path}

@@ -1,5 +1,5 @@
 -- What each shorthand of the specification is worth, by the values of its arguments: what its name says, over every trace.
---   greatest_in a b f, least_in a b f     the greatest and the least of f a .. f (b - 1); 0 and 2 if there is none
+--   greatest_in a b f, least_in a b f   the greatest and the least of f a .. f (b - 1); 0 and 2 if there is none
 --   after L f k else, before f k else   f at the next instant, at the previous one; `else` where there is none
 --   Means L f g k worth                 what each shorthand is worth at instant k if its arguments F and G are worth f and g
 --   Shorthands                          over every trace, the expansions are worth that

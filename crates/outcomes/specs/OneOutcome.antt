@@ -6,8 +6,8 @@
 --   Fits ps r Post κs a o    the outcome o at the arguments a meets the contract
 --   OneFits ps r Post        two outcomes at the same arguments that both meet it are equal
 --   OneSquare ps r Post L s  two that both meet it have the same square s over L instants
---   OneOutcome               so it is for each function that another crate or a C program can call
--- But for `listing::run`, which answers nothing and is lent nothing: no contract can say what it writes.
+--   OneOutcome               so it is for each function that another crate can call; what a C program calls has the same contracts
+-- But for `listing::run`, which reads and writes streams: no contract can say what comes in or goes out.
 use Rattle.std.specs.Prelude.{ℕ, ◌<◌, ◌≡◌, List}
 use contract.Lifetimes.{Lfts}
 use denote.Triple.Clauses.{Lasts, at_exit}

@@ -1,7 +1,7 @@
 -- Writing what is read as records.
 --   Sorted T                       how a tree of type T is read, its size, and its records from number n on
 --   Readable S t at n              a tree can be read at the place, and its records fit from number n on
---   stars_from i n                  the records of i stars one around the other, the first, number n, around the record before it
+--   stars_from i n                 the records of i stars one around the other, the first, number n, around the record before it
 --   Wrote S t at n old e m new     it ends at the place e, its records were written, and m is the number after them
 use Rattle.std.specs.Prelude.{ℕ, zero, suc, pred, ◌+◌, ◌*◌, ◌≤◌, ◌<◌, ◌≡◌, List, [], ◌++◌, length}
 use Rattle.std.proofs.Math.Option.{Option, some}

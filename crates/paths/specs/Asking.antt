@@ -1,7 +1,7 @@
 -- What the questions about accepted records ask.
 --   Formed s          the records of a formula, over some number of atoms
 --   Ready s A         the records of a formula over A atoms
---   moves_of p         the moves that the path p has, as bits: 1 steps, 2 back steps
+--   moves_of p        the moves that the path p has, as bits: 1 steps, 2 back steps
 --   MovesAt s q x     if record q is a path, its moves are x
 --   Known s m moves   the array has the moves of each path before record m
 --   Scanned s r moves record r is one of a formula's, and those before it are known

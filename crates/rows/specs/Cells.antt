@@ -2,7 +2,7 @@
 --   width                    how many bytes a row has: one for each instant that a trace may have
 --   area                     how many bytes a square has
 --   at s k j                 the value from k to j in the square s
---   row_at t start k          the value at k in the row of the list t that starts at `start`
+--   row_at t start k         the value at k in the row of the list t that starts at `start`
 --   Holds L s f              over L instants the square s has the value f k j from k to j
 --   Put L start f old new    `new` is `old` with the values f k in the row from `start` on
 --   Rowed k f old new        `new` is the square `old` with the values f j in row k

@@ -1,6 +1,6 @@
 -- Rules as rows of words.
---   row_of ρ      the six words of the rule ρ
---   rows_of ρs    four rows: those of the rules, and zeros
+--   row_of ρ     the six words of the rule ρ
+--   rows_of ρs   four rows: those of the rules, and zeros
 --   Small word   a word with room for a mark
 use Rattle.std.specs.Prelude.{ℕ, ◌<◌, List, [], ◌∷◌, ◌++◌, map, take, replicate}
 use Rattle.meaning.specs.Rule.{Rule, rule_size}

@@ -1,7 +1,7 @@
 -- The text of a record's tree, and signs as numbers: a byte for each character, the first one lowest, and a 1 above the last.
---   sign_bytes n           the characters of the sign n
---   own_sign kind a        the sign of a record of the kind whose field a holds a; a back step has none
---   text_at s r            the text of record r's tree
+--   sign_bytes n          the characters of the sign n
+--   own_sign kind a       the sign of a record of the kind whose field a holds a; a back step has none
+--   text_at s r           the text of record r's tree
 --   Spellable s           s is the records of a formula in core kinds
 --   Spelling s r at       r is one of them, and its text fits from the place `at` on
 use Rattle.std.specs.Prelude.{ℕ, zero, suc, ◌+◌, ◌/◌, ◌%◌, ◌<◌, ◌≤◌, true, false, cond, List, [], ◌∷◌, ◌++◌, leb, length}

@@ -1,6 +1,6 @@
 -- Where the value of a move is, and what a test before a path leaves.
 --   next_cell w    how far after the diagonal's place the value of a move is
---   capped f p    p from k to j, but no more than f k
+--   capped f p     p from k to j, but no more than f k
 use Rattle.std.specs.Prelude.{ℕ, min}
 use Rattle.meaning.specs.Record.{Way, ahead, back}
 use Rattle.meaning.specs.Value.{Square}

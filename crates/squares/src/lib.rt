@@ -23,7 +23,9 @@ fn next_cell(kind: u8) -> usize
     }
 }
 
-// A step or a back step: 2 from each instant to the one beside it.
+// A step or a back step: 2 from each instant to the one beside it. Not inlined: on the frame of the recursion that calls it, a square would
+// count at each level.
+#[inline(never)]
 pub fn move_square(kind: u8, l: usize) -> Square
     requires { l ≤ most_instants }
     ensures { Holds l result (move_square (way_of kind)) }
@@ -38,7 +40,8 @@ pub fn move_square(kind: u8, l: usize) -> Square
     s
 }
 
-// The test of the formula whose row starts at `start`.
+// The test of the formula whose row starts at `start`. Not inlined, for the same reason.
+#[inline(never)]
 pub fn test_square(table: &[u8], start: usize, l: usize) -> Square
     requires { (l ≤ most_instants) × (start + l ≤ length table.now) }
     ensures { Holds l result (test_square (row_at table.now start)) }

@@ -1,6 +1,6 @@
 -- What the parts of writing and reading text ask and leave.
 --   Sized new size out x c after     the answer for bytes `new`: 10 or none, their size, and the output `after`
---   text_grounds t A                  8, 14 and 19, of a text
+--   text_grounds t A                 8, 14 and 19, of a text
 --   Readable t n                     t is the text of a formula of n records, which are not too many
 --   Came F A out x c after           the answer for the text of F: 5, 10 or none, the number of records, and the output `after`
 use Rattle.std.specs.Prelude.{ℕ, ◌≤◌, ◌≡◌, true, List, [], ◌∷◌, length}

@@ -38,7 +38,7 @@ use Rattle.theorems.proofs.Shape.{mode_at, cont_at, Shape, shapes}
 use Rattle.theorems.proofs.Saying.{every_word, all_hold, append_kept}
 
 -- ---- rules in form
--- Every rule of a list is in form, over 𝓛 columns.
+-- Every rule of a list is in form, over W columns.
 abbrev pub Formed : ℕ → List Rule → Type 0
 Formed W = All (λ ρ. bad_rule W ρ ≡ false)
 

@@ -1,6 +1,6 @@
 -- A trace filled with labels: rows of A atoms and then n labels, as the judge reads them.
 --   Filling A n L cells f      f has the trace's cells and, beside them, values for n labels
---   label_of A n f r k          the value of record r's label at instant k
+--   label_of A n f r k         the value of record r's label at instant k
 --   others s A                 the words of all rules but the one that asserts the whole formula
 --   Meets s A L f              all these rules hold at all their instants
 use Rattle.std.specs.Prelude.{ℕ, ◌+◌, ◌*◌, ◌<◌, ◌≤◌, ◌≡◌, List, length, get_or}

@@ -1,6 +1,6 @@
 // Valuing a record: a formula's row calls for its path's square, and a test in the path for its formula's row. The record number falls.
 ghost use Rattle.std.specs.Prelude.{◌≡◌, ◌&&◌, false, ℕ, ◌<◌, ◌≤◌, eqb};
-ghost use Rattle.meaning.specs.Record.{core, count, formula, path, sort_of, kind_at, kind_byte};
+ghost use Rattle.meaning.specs.Record.{core, count, formula, path, sort_of, kind_at, kind_byte, field_a};
 ghost use Rattle.meaning.specs.Value.{star_square};
 ghost use Rattle.meaning.specs.WellFormed.{WellFormed};
 ghost use Rattle.rows.specs.Cells.{at, Holds};
@@ -70,11 +70,7 @@ fn path_square(
         return squares::test_square(&table[..], tables::row_start(a, l), l);
     }
     if begins_with_test(records, kind, a) {
-        let f = layout::field_a(records, a);
-        value_formula(records, atoms, l, cells, f, table);
-        let mut t = path_square(records, atoms, l, cells, layout::field_b(records, p), table);
-        squares::cap(&mut t, &table[..], tables::row_start(f, l), l);
-        return t;
+        return tested_square(records, atoms, l, cells, p, a, table);
     }
     let mut s = path_square(records, atoms, l, cells, a, table);
     if kind == kind::STAR {
@@ -89,7 +85,33 @@ fn path_square(
     s
 }
 
+// The square of path p, a sequence whose first part a is a test. A function of its own, and not inlined, so that other paths take less of the stack
+// at each level.
+#[cycle(path_square_value_formula)]
+#[inline(never)]
+fn tested_square(
+    records: &[u8],
+    atoms: usize,
+    l: usize,
+    cells: &[u8],
+    p: usize,
+    a: usize,
+    table: &mut [u8],
+) -> Square
+    requires asked { Asked records.now atoms l cells.now p table.old × (sort_of (kind_at records.now p) ≡ path) }
+    requires tested { (kind_byte records.now p ≡ 9) × (a ≡ field_a records.now p) × (kind_byte records.now a ≡ 7) }
+    ensures { RowsValued records.now atoms l cells.now p table.old table.new × Squared records.now atoms l cells.now p result }
+{
+    let f = layout::field_a(records, a);
+    value_formula(records, atoms, l, cells, f, table);
+    let mut t = path_square(records, atoms, l, cells, layout::field_b(records, p), table);
+    squares::cap(&mut t, &table[..], tables::row_start(f, l), l);
+    t
+}
+
 // The square of path p becomes its star's. A star is one already, and one move with tests about it leads to one instant from each.
+// Not inlined, for the same reason.
+#[inline(never)]
 fn close(records: &[u8], p: usize, s: &mut Square, l: usize)
     requires { PathSquare records.now l p s.old }
     ensures { Holds l s.new (star_square l (at s.old)) }
