@@ -7,8 +7,6 @@
 #define EACH service->each
 #define ROOMS 0, PASTUREQUILL_MOST_RECORD_BYTES, 4 * PASTUREQUILL_MOST_RECORD_BYTES
 
-#include <pthread.h>
-
 #include "pasturequill.h"
 
 /* Which of the two is called, and how many bytes each of what it counts has. */
@@ -18,6 +16,7 @@ static const struct service {
 } writer = {pasturequill_write_text, 1}, reader = {pasturequill_read_text, PASTUREQUILL_RECORD_SIZE}, *service;
 
 #include "counted.h"
+#include "stack.h"
 
 enum { MOST_TEXT = PASTUREQUILL_MOST_TEXT, MOST_ATOMS = PASTUREQUILL_MOST_ATOMS };
 
@@ -375,16 +374,11 @@ static void *all(void *argument)
     return argument;
 }
 
-/* Twice what reading and writing may take of the stack, so that a call which takes more ends the test. */
+/* Twice what reading and writing may take of the stack. */
 enum { STACK = 512 << 10 };
 
 int main(void)
 {
-    pthread_attr_t attributes;
-    pthread_t thread;
-    must(pthread_attr_init(&attributes) == 0 && pthread_attr_setstacksize(&attributes, STACK) == 0 &&
-             pthread_attr_setguardsize(&attributes, STACK) == 0,
-         "there is no little stack");
-    must(pthread_create(&thread, &attributes, all, NULL) == 0 && pthread_join(thread, NULL) == 0, "there is no thread");
+    in_stack_of(STACK, all);
     return counts_told();
 }

@@ -1,9 +1,11 @@
 /* pasturequill_value over tables of cases and around the greatest sizes. Each input is at both edges of memory that may
- * not be touched, records and cells in memory that may only be read, and the table with and without room to spare. */
+ * not be touched, records and cells in memory that may only be read, and the table with and without room to spare. All
+ * calls are made in a thread with little stack. */
 #define TEST_NAME "value"
 
 #include "faults.h"
 #include "room.h"
+#include "stack.h"
 
 enum { MOST_ATOMS = PASTUREQUILL_MOST_ATOMS, MOST_INSTANTS = PASTUREQUILL_MOST_INSTANTS };
 
@@ -323,7 +325,7 @@ static void no_addresses(void)
           got.refusal, PASTUREQUILL_WRONG_LENGTH);
 }
 
-int main(void)
+static void *all(void *argument)
 {
     for (const struct valued *v = valued; v < END(valued); v++)
         expect_valued(v);
@@ -336,5 +338,14 @@ int main(void)
     most_instants();
     most_cells();
     no_addresses();
+    return argument;
+}
+
+/* The 1.1 MiB that a call may take of the stack, and 64 KiB for the test that calls. */
+enum { STACK = (1126 << 10) + (64 << 10) };
+
+int main(void)
+{
+    in_stack_of(STACK, all);
     return counts_told();
 }
