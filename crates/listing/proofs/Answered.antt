@@ -14,6 +14,8 @@ use Rattle.meaning.specs.Service.{translate_answer, translate_after}
 use Rattle.records.proofs.Ranges.{again}
 use Rattle.translate.proofs.RoomGrounds.{accepted}
 use Rattle.meaning.specs.Text.{ascii}
+use Rattle.copying.specs.Appended.{Appended}
+use Rattle.copying.proofs.Appending.{append_more, append_written}
 use Rattle.listing.specs.Printed.{spelled, word, line, line_end, printed}
 
 -- ---- zeros
@@ -58,9 +60,14 @@ module _ (s : List ℕ) where
     unfolding translate_answer
     is_refusal = answered ∙ rw (length-replicate {A = ℕ} (rule_size * most_rules) 0)
 
-    pub printed_refused : (x ≡ 0 → ⊥) → printed s ≡ ascii "refused " ++ spelled x line_end
+    printed_refused : (x ≡ 0 → ⊥) → printed s ≡ ascii "refused " ++ spelled x line_end
     unfolding printed
     printed_refused n = rw (← is_refusal, ne_eqb x 0 n)
+
+    -- The refusal, put at the start, is all that is printed.
+    pub refusal_put : (x ≡ 0 → ⊥) → {old new : List ℕ} {e : ℕ} → Appended old 0 (ascii "refused " ++ spelled x line_end) e new → e ≤ length old
+        → (e ≡ length (printed s)) × (new ≡ written (printed s) old)
+    refusal_put n p fits = append_written (rw (← printed_refused n) at p) fits
 
     module _ {n : ℕ} (counted : n ≡ (translate_answer s most_atoms (length room)).count) (none : x ≡ 0) where
       all_counted : n ≡ rules
@@ -70,9 +77,14 @@ module _ (s : List ℕ) where
       pub few_rules : n ≤ most_rules
       few_rules = omega (arith, (accepted s most_atoms _ (sym is_refusal ∙ none)).1, all_counted)
 
-      pub printed_rules : {ws : List ℕ} → ws ≡ translate_after s most_atoms room
+      printed_rules : {ws : List ℕ} → ws ≡ translate_after s most_atoms room
           → printed s ≡ each n (line ws) ++ (ascii "rules " ++ spelled n line_end)
       unfolding printed translate_after
       printed_rules e =
           let same = same_lines (words (translation s most_atoms)) (rule_size * most_rules) n in
           rw (← is_refusal, none, e, eq-eqb _ 0 (sym answered ∙ none), same, all_counted)
+
+      -- The rules' lines and the last line, put one after the other, are all that is printed.
+      pub rules_put : {ws old mid new : List ℕ} {at e : ℕ} → ws ≡ translate_after s most_atoms room → Appended old 0 (each n (line ws)) at mid
+          → Appended mid at (ascii "rules " ++ spelled n line_end) e new → e ≤ length old → (e ≡ length (printed s)) × (new ≡ written (printed s) old)
+      rules_put w p q fits = append_written (rw (← printed_rules w) at (append_more p q)) fits

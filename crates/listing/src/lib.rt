@@ -1,7 +1,8 @@
 // The printing program: records come in, and their rules go out as text.
 #![tactic(auto)]
 
-ghost use Rattle.std.specs.Prelude.{◌≡◌, ◌++◌, ◌*◌, ◌+◌, ◌<◌, ◌≤◌, IfOk, length};
+ghost use Rattle.std.specs.Prelude.{◌≡◌, ◌++◌, ◌*◌, ◌+◌, ◌<◌, ◌≤◌, IfOk, length, take};
+ghost use Rattle.std.specs.Io.KnownBytes.{Consumes, IsAtEnd};
 ghost use Rattle.meaning.specs.Run.{each, written};
 ghost use Rattle.meaning.specs.Rule.{rule_size};
 ghost use Rattle.copying.specs.Appended.{Appended};
@@ -41,13 +42,15 @@ pub fn run(rt: HostRuntime) -> Result<()> {
 
 // Reads until the buffer is full or the input ends, and gives the number of bytes read.
 fn read_full<R: Read>(input: &mut R, bytes: &mut [u8]) -> Result<usize>
-    ensures { IfOk result (λ n. n ≤ length bytes.new) }
+    ensures fits { IfOk result (λ n. n ≤ length bytes.new) }
+    ensures read { IfOk result (λ n. Consumes (R.remaining input.old) (R.remaining input.new) (take n bytes.new)) }
+    ensures ended { IfOk result (λ n. n < length bytes.new → IsAtEnd (R.remaining input.new)) }
 {
     let mut n: usize = 0;
     while n < bytes.len() {
         let more = input.read(&mut bytes[n..])?;
         if more == 0 {
-            break;
+            return Ok(n);
         }
         n += more;
     }

@@ -6,12 +6,12 @@ use Rattle.meaning.specs.Run.{written}
 use Rattle.listing.proofs.run.Goals as goal
 
 -- What is written fits.
-written-fits : (old t : List ℕ) {new : List ℕ} {e : ℕ} → e ≡ length t → new ≡ written t old → e ≤ length new
+written_fits : (old t : List ℕ) {new : List ℕ} {e : ℕ} → e ≡ length t → new ≡ written t old → e ≤ length new
 unfolding written
-written-fits old t e w = rw (w, length-append t) (omega arith)
+written_fits old t e w = rw (w, length-append t) (omega arith)
 
 pub slice_bounds-out-end : goal.slice_bounds-out-end
-slice_bounds-out-end c = written-fits _ _ c.text-size.ensures.size c.text-size.ensures.bytes
+slice_bounds-out-end c = written_fits _ _ c.text-size.ensures.size c.text-size.ensures.bytes
 
 pub slice_bounds-write_all-end : goal.slice_bounds-write_all-end
-slice_bounds-write_all-end c = sym (length-take-le _ _ (written-fits _ _ c.text-size.ensures.size c.text-size.ensures.bytes))
+slice_bounds-write_all-end c = sym (length-take-le _ _ (written_fits _ _ c.text-size.ensures.size c.text-size.ensures.bytes))
