@@ -1,4 +1,4 @@
--- The kinds that text asks for by number: only 6 is a back step, and only 2 names an atom.
+-- The kinds that text asks for by number: only 6 is a back step, for which all records are scanned, and only 2 names an atom.
 use Prim.Native.Nat.{ℕ, ◌+◌, ◌<◌}
 use mathlib.Core.Path.{◌≡◌, refl, sym}
 use mathlib.Core.Bool.{Bool, true, false, ◌||◌}

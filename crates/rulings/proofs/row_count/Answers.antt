@@ -1,4 +1,4 @@
--- `row_count` meets its contract: by the kind, and of a test by the mode.
+-- By the kind, and of a test by the mode.
 use Rattle.std.proofs.Common.{ℕ, ◌<◌, ◌≤◌, ◌≡◌, ◌≢◌, refl, inl, inr, arith, ne_eqb}
 use Rattle.meaning.specs.{Record.Mode, Record.kinds, Record.kind_of, Translation.rule_number}
 use Rattle.meaning.proofs.Bounds.{le_or_lt}
@@ -7,14 +7,14 @@ use Rattle.records.proofs.Ranges.{stretch}
 use Rattle.rulings.proofs.row_count.Goals as goal
 
 -- A formula.
-two-rows : (n : ℕ) (m : Mode) → n < 5 → 2 ≡ rule_number (kind_of n) m
+two_rows : (n : ℕ) (m : Mode) → n < 5 → 2 ≡ rule_number (kind_of n) m
 unfolding kinds rule_number
-two-rows n m h = stretch (λ K. rule_number K m) 2 0 5 refl n (omega arith) h
+two_rows n m h = stretch (λ K. rule_number K m) 2 0 5 refl n (omega arith) h
 
 -- A move, a choice, a star.
-three-rows : (n : ℕ) (m : Mode) → 5 ≤ n → n < 11 → n ≢ 7 → n ≢ 9 → 3 ≡ rule_number (kind_of n) m
+three_rows : (n : ℕ) (m : Mode) → 5 ≤ n → n < 11 → n ≢ 7 → n ≢ 9 → 3 ≡ rule_number (kind_of n) m
 unfolding kinds rule_number
-three-rows n m l h p q = elim (le_or_lt n 6) [
+three_rows n m l h p q = elim (le_or_lt n 6) [
   | inl k ↦ stretch (λ K. rule_number K m) 3 5 2 refl n l (omega arith)
   | inr k ↦ elim (le_or_lt n 8) [
     | inl j ↦ stretch (λ K. rule_number K m) 3 8 1 refl n (omega arith) (omega arith)
@@ -23,7 +23,7 @@ three-rows n m l h p q = elim (le_or_lt n 6) [
 ]
 
 pub returns-then-kind-lt-STEP : goal.returns-then-kind-lt-STEP
-returns-then-kind-lt-STEP c = two-rows _ _ c.if-kind-lt-STEP.true
+returns-then-kind-lt-STEP c = two_rows _ _ c.if-kind-lt-STEP.true
 
 pub returns-in-9 : goal.returns-in-9
 unfolding kind_of kinds rule_number
@@ -38,4 +38,4 @@ unfolding kind_of kinds rule_number mode_of
 returns-else-mode-eq-DIAMOND c = rw (c.in-7.is, ne_eqb _ _ c.if-mode-eq-DIAMOND.false)
 
 pub returns-in_default : goal.returns-in_default
-returns-in_default c = three-rows _ _ (omega arith) c.requires (λ e. omega arith) (λ e. omega arith)
+returns-in_default c = three_rows _ _ (omega arith) c.requires (λ e. omega arith) (λ e. omega arith)

@@ -1,4 +1,4 @@
--- `rows_of` meets its contract: by the kind.
+-- By the kind.
 use Rattle.std.proofs.Common.{◌≡◌, arith}
 use Rattle.meaning.specs.{Record.kinds, Record.kind_of, Translation.rules_of}
 use Rattle.records.proofs.Numbers.{modal_kind, move_kind}

@@ -1,27 +1,22 @@
 -- With signs and parts put one after another, a record's text is put.
 use Rattle.std.proofs.Common.{ℕ, ◌+◌, ◌<◌, ◌≤◌, ◌≡◌, List, length, arith}
-use Rattle.meaning.specs.Record.{kind_byte, kind_of, field_a, field_b, use_a, use_b}
 use Rattle.meaning.specs.Text.{most_text}
-use Rattle.shapes.specs.Uses.{use_code}
-use Rattle.spelling.specs.Spelling.{sign_bytes, own_sign, text_at, Spelling}
+use Rattle.spelling.specs.Spelling.{text_at, Spelling}
 use Rattle.copying.proofs.Appending.{append_more}
-use Rattle.spelling.proofs.Parts.{atom_low, Read, One, Two, no_part, one_part, two_parts}
+use Rattle.spelling.proofs.Parts.{atom_low, Read, no_part, one_part, two_parts}
 use Rattle.spelling.proofs.+spell_record.Goals as goal
+use Rattle.spelling.proofs.+spell_record.Goals.{After-own_sign-own}
 
-module _ {s : List ℕ} {r at k a b : ℕ} (v : ℕ) (asked : Spelling s r at) (kind : k ≡ kind_byte s r) (first : a ≡ field_a s r) (second : b ≡ field_b s r)
-    (own : sign_bytes v ≡ own_sign (kind_of k) a) where
-  read : Read s r at k a b v
-  read = record { asked = asked; kind = kind; first = first; second = second; own = own }
-
-  module _ {u : ℕ} (ua : u ≡ use_code (use_a (kind_of k))) where
-    none : u < 2 → text_at s r ≡ sign_bytes v
-    none h = no_part read (omega arith)
-
-    one : {w : ℕ} → 2 ≤ u → w ≡ use_code (use_b (kind_of k)) → w < 2 → One s r at a v
-    one h ub l = one_part read (omega arith) (omega arith)
-
-    two : {w : ℕ} → 2 ≤ u → w ≡ use_code (use_b (kind_of k)) → 2 ≤ w → Two s r at a b v
-    two h ub l = two_parts read (omega arith) (omega arith)
+-- The record as it was read.
+read : {t : ℕ} (c : After-own_sign-own t)
+    → Read c.args.records.now c.args.r c.args.at c.kind_at-kind.result c.field_a-a.result c.field_b-b.result c.own_sign-own.result
+read c = record {
+  asked = c.requires;
+  kind = c.kind_at-kind.ensures;
+  first = c.field_a-a.ensures;
+  second = c.field_b-b.ensures;
+  own = c.own_sign-own.ensures;
+}
 
 -- A part may be spelled from the place e on.
 part : {s : List ℕ} {r at t : ℕ} (q e : ℕ) → r ≡ t → Spelling s r at → q < r → e + length (text_at s q) ≤ most_text → (q < t) × Spelling s q e
@@ -33,69 +28,58 @@ own_sign-own-requires t c = rw (c.kind_at-kind.ensures, c.field_a-a.ensures) (at
 -- ---- no part
 pub put_sign-requires : goal.put_sign-requires
 put_sign-requires t c =
-    rw (← none c.own_sign-own.result c.requires c.kind_at-kind.ensures c.field_a-a.ensures c.field_b-b.ensures c.own_sign-own.ensures
-    c.use_a.ensures c.if-use_a-lt-FORMULA.true) c.requires.room
+    rw (← no_part (read (goal.at.put_sign-requires t c).After-own_sign-own) (omega arith)) c.requires.room
 
 pub returns-then-use_a-lt-FORMULA : goal.returns-then-use_a-lt-FORMULA
 returns-then-use_a-lt-FORMULA t c =
-    rw (none c.own_sign-own.result c.requires c.kind_at-kind.ensures c.field_a-a.ensures c.field_b-b.ensures c.own_sign-own.ensures
-    c.use_a.ensures c.if-use_a-lt-FORMULA.true) c.put_sign.ensures
+    rw (no_part (read (goal.at.returns-then-use_a-lt-FORMULA t c).After-own_sign-own) (omega arith)) c.put_sign.ensures
 
 -- ---- one part
 pub put_sign-part-requires : goal.put_sign-part-requires
 put_sign-part-requires t c =
-    let g = one _ c.requires c.kind_at-kind.ensures c.field_a-a.ensures c.field_b-b.ensures c.own_sign-own.ensures
-    c.use_a.ensures c.if-use_a-lt-FORMULA.false c.use_b.ensures c.if-use_b-lt-FORMULA.true in
+    let g = one_part (read (goal.at.put_sign-part-requires t c).After-own_sign-own) (omega arith) (omega arith) in
     omega (arith, g.room)
 
 pub spell_record-requires : goal.spell_record-requires
 spell_record-requires t c =
-    let g = one _ c.requires c.kind_at-kind.ensures c.field_a-a.ensures c.field_b-b.ensures c.own_sign-own.ensures
-    c.use_a.ensures c.if-use_a-lt-FORMULA.false c.use_b.ensures c.if-use_b-lt-FORMULA.true in
+    let g = one_part (read (goal.at.spell_record-requires t c).After-own_sign-own) (omega arith) (omega arith) in
     part _ _ c.decreases c.requires g.first (omega (arith, g.room, c.put_sign-part.ensures.place))
 
 pub returns-then-use_b-lt-FORMULA : goal.returns-then-use_b-lt-FORMULA
 returns-then-use_b-lt-FORMULA t c =
-    let g = one _ c.requires c.kind_at-kind.ensures c.field_a-a.ensures c.field_b-b.ensures c.own_sign-own.ensures
-    c.use_a.ensures c.if-use_a-lt-FORMULA.false c.use_b.ensures c.if-use_b-lt-FORMULA.true in
+    let g = one_part (read (goal.at.returns-then-use_b-lt-FORMULA t c).After-own_sign-own) (omega arith) (omega arith) in
     rw g.text (append_more c.put_sign-part.ensures c.spell_record.ensures)
 
 -- ---- two parts
 pub put_sign-first-requires : goal.put_sign-first-requires
 put_sign-first-requires t c =
-    let g = two _ c.requires c.kind_at-kind.ensures c.field_a-a.ensures c.field_b-b.ensures c.own_sign-own.ensures
-    c.use_a.ensures c.if-use_a-lt-FORMULA.false c.use_b.ensures c.if-use_b-lt-FORMULA.false in
+    let g = two_parts (read (goal.at.put_sign-first-requires t c).After-own_sign-own) (omega arith) (omega arith) in
     omega (arith, g.room)
 
 pub spell_record-between-requires : goal.spell_record-between-requires
 spell_record-between-requires t c =
-    let g = two _ c.requires c.kind_at-kind.ensures c.field_a-a.ensures c.field_b-b.ensures c.own_sign-own.ensures
-    c.use_a.ensures c.if-use_a-lt-FORMULA.false c.use_b.ensures c.if-use_b-lt-FORMULA.false in
+    let g = two_parts (read (goal.at.spell_record-between-requires t c).After-own_sign-own) (omega arith) (omega arith) in
     part _ _ c.decreases c.requires g.first (omega (arith, g.room, c.put_sign-first.ensures.place))
 
 pub put_sign-second-requires : goal.put_sign-second-requires
 put_sign-second-requires t c =
-    let g = two _ c.requires c.kind_at-kind.ensures c.field_a-a.ensures c.field_b-b.ensures c.own_sign-own.ensures
-    c.use_a.ensures c.if-use_a-lt-FORMULA.false c.use_b.ensures c.if-use_b-lt-FORMULA.false in
+    let g = two_parts (read (goal.at.put_sign-second-requires t c).After-own_sign-own) (omega arith) (omega arith) in
     omega (arith, g.room, c.put_sign-first.ensures.place, c.spell_record-between.ensures.place)
 
 pub spell_record-end-requires : goal.spell_record-end-requires
 spell_record-end-requires t c =
-    let g = two _ c.requires c.kind_at-kind.ensures c.field_a-a.ensures c.field_b-b.ensures c.own_sign-own.ensures
-    c.use_a.ensures c.if-use_a-lt-FORMULA.false c.use_b.ensures c.if-use_b-lt-FORMULA.false in
+    let g = two_parts (read (goal.at.spell_record-end-requires t c).After-own_sign-own) (omega arith) (omega arith) in
     part _ _ c.decreases c.requires g.second
     (omega (arith, g.room, c.put_sign-first.ensures.place, c.spell_record-between.ensures.place, c.put_sign-second.ensures.place))
 
 pub put_sign-requires-2 : goal.put_sign-requires-2
 put_sign-requires-2 t c =
-    let g = two _ c.requires c.kind_at-kind.ensures c.field_a-a.ensures c.field_b-b.ensures c.own_sign-own.ensures
-    c.use_a.ensures c.if-use_a-lt-FORMULA.false c.use_b.ensures c.if-use_b-lt-FORMULA.false in
+    let g = two_parts (read (goal.at.put_sign-requires-2 t c).After-own_sign-own) (omega arith) (omega arith) in
     omega (arith, g.room, c.put_sign-first.ensures.place, c.spell_record-between.ensures.place, c.put_sign-second.ensures.place, c.spell_record-end.ensures.place)
 
 pub returns : goal.returns
 returns t c =
-    let g = two _ c.requires c.kind_at-kind.ensures c.field_a-a.ensures c.field_b-b.ensures c.own_sign-own.ensures
-    c.use_a.ensures c.if-use_a-lt-FORMULA.false c.use_b.ensures c.if-use_b-lt-FORMULA.false in
+    let g = two_parts (read (goal.at.returns t c).After-own_sign-own) (omega arith) (omega arith) in
     rw g.text
     (append_more c.put_sign-first.ensures
     (append_more c.spell_record-between.ensures

@@ -1,5 +1,4 @@
--- `first_refusal` meets its contract: the formula's grounds come first, and after them the room, for as many rules as
--- there are.
+-- The formula's grounds come first, and after them the room, for as many rules as there are.
 use Rattle.std.proofs.Common.{sym, ◌∙◌, arith}
 use Rattle.meaning.specs.{Record.count}
 use Rattle.meaning.proofs.{Accepted.starred_formed, RuleCount.sum_few, RuleCount.translation_counted}

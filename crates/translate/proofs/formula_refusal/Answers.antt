@@ -1,4 +1,4 @@
--- `formula_refusal` meets its contract: check's grounds come first, and what passes them is a formula's records.
+-- Check's grounds come first, and what passes them is a formula's records.
 use Rattle.std.proofs.Common.{sym, ◌∙◌}
 use Rattle.meaning.specs.{Refusal.check_grounds, Refusal.star_grounds, Service.check_answer, WellFormed.WellFormed, Record.core}
 use Rattle.meaning.proofs.{First.clear_skip, First.found_stop, Accepted.check_accepts, Accepted.clear_well_formed}

@@ -26,8 +26,8 @@ write_step-returns-then-n-ge-MOST_RECORDS t c =
 pub write_step-put_record-requires : goal.write_step-put_record-requires
 write_step-put_record-requires t c =
     let (w, f, low, few) = c.requires in
-    let (small-a, small_b) = own_small w _ f c.if-step-ge-PART_A.false c.args.under c.args.n low few in
-    (c.if-n-ge-MOST_RECORDS.false, rw (c.own_a.ensures, c.field_a.ensures) small-a, rw c.own_b.ensures small_b)
+    let (small_a, small_b) = own_small w _ f c.if-step-ge-PART_A.false c.args.under c.args.n low few in
+    (c.if-n-ge-MOST_RECORDS.false, rw (c.own_a.ensures, c.field_a.ensures) small_a, rw c.own_b.ensures small_b)
 
 pub write_step-returns : goal.write_step-returns
 write_step-returns t c =

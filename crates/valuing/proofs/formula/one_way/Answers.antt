@@ -2,25 +2,25 @@
 use Rattle.std.proofs.Common.{◌<◌, sym, ◌∙◌, arith}
 use Rattle.valuing.specs.Valuing.{Moves}
 use Rattle.valuing.proofs.Moved.{first_earlier, second_earlier, moves_tested, moves_testing}
-use Rattle.valuing.proofs.formula.one_way.Goals.{then-kind_at-eq-TEST, else-kind_at-eq-TEST+then-kind_at-eq-TEST-2}
+use Rattle.valuing.proofs.formula.one_way.Goals.{After-field_b-b, then-kind_at-eq-TEST, else-kind_at-eq-TEST+then-kind_at-eq-TEST-2}
 use Rattle.valuing.proofs.formula.one_way.Goals as goal
 
-pub kind_at-requires : goal.kind_at-requires
-kind_at-requires c =
+earlier : (c : After-field_b-b) → (c.field_a-a.result < c.loop-kind.q) × (c.field_b-b.result < c.loop-kind.q)
+earlier c =
     let inv = c.loop-kind.invariant in
-    omega (arith, first_earlier c.requires.0.1 inv.0 (sym inv.1 ∙ c.loop-kind-test.true) c.field_a-a.ensures)
+    let nine = sym inv.1 ∙ c.loop-kind-test.true in
+    (first_earlier c.requires.0.1 inv.0 nine c.field_a-a.ensures, second_earlier c.requires.0.1 inv.0 nine c.field_b-b.ensures)
+
+pub kind_at-requires : goal.kind_at-requires
+kind_at-requires c = omega (arith, (earlier (goal.at.kind_at-requires c).After-field_b-b).0, c.loop-kind.invariant.0)
 
 pub kind_at-requires-else-kind_at-eq-TEST : goal.kind_at-requires-else-kind_at-eq-TEST
 kind_at-requires-else-kind_at-eq-TEST c =
-    let inv = c.loop-kind.invariant in
-    omega (arith, second_earlier c.requires.0.1 inv.0 (sym inv.1 ∙ c.loop-kind-test.true) c.field_b-b.ensures)
+    omega (arith, (earlier (goal.at.kind_at-requires-else-kind_at-eq-TEST c).After-field_b-b).1, c.loop-kind.invariant.0)
 
 pub kind_at-kind-requires-in-loop-kind : goal.kind_at-kind-requires-in-loop-kind
 kind_at-kind-requires-in-loop-kind c =
-    let inv = c.loop-kind.invariant in
-    let nine = sym inv.1 ∙ c.loop-kind-test.true in
-    let a = first_earlier c.requires.0.1 inv.0 nine c.field_a-a.ensures in
-    let b = second_earlier c.requires.0.1 inv.0 nine c.field_b-b.ensures in
+    let (a, b) = earlier (goal.at.kind_at-kind-requires-in-loop-kind c).After-field_b-b in
     elim c.if-kind_at-eq-TEST.branch [
       | then-kind_at-eq-TEST w ↦ omega arith
       | else-kind_at-eq-TEST+then-kind_at-eq-TEST-2 w ↦ omega arith
@@ -28,10 +28,7 @@ kind_at-kind-requires-in-loop-kind c =
 
 pub loop-kind-smaller : goal.loop-kind-smaller
 loop-kind-smaller c =
-    let inv = c.loop-kind.invariant in
-    let nine = sym inv.1 ∙ c.loop-kind-test.true in
-    let a = first_earlier c.requires.0.1 inv.0 nine c.field_a-a.ensures in
-    let b = second_earlier c.requires.0.1 inv.0 nine c.field_b-b.ensures in
+    let (a, b) = earlier (goal.at.loop-kind-smaller c).After-field_b-b in
     elim c.if-kind_at-eq-TEST.branch [
       | then-kind_at-eq-TEST w ↦ omega arith
       | else-kind_at-eq-TEST+then-kind_at-eq-TEST-2 w ↦ omega arith
@@ -42,13 +39,11 @@ loop-kind-preserved c =
     let inv = c.loop-kind.invariant in
     let fa = c.field_a-a.ensures in let fb = c.field_b-b.ensures in
     let nine = sym inv.1 ∙ c.loop-kind-test.true in
-    let a = first_earlier c.requires.0.1 inv.0 nine fa in
-    let b = second_earlier c.requires.0.1 inv.0 nine fb in
-    let less : c.if-kind_at-eq-TEST.q < c.loop-kind.q = elim c.if-kind_at-eq-TEST.branch [
-      | then-kind_at-eq-TEST w ↦ omega arith
-      | else-kind_at-eq-TEST+then-kind_at-eq-TEST-2 w ↦ omega arith
-    ] in (
-      omega arith,
+    let (a, b) = earlier (goal.at.loop-kind-preserved c).After-field_b-b in (
+      elim c.if-kind_at-eq-TEST.branch [
+        | then-kind_at-eq-TEST w ↦ omega arith
+        | else-kind_at-eq-TEST+then-kind_at-eq-TEST-2 w ↦ omega arith
+      ],
       c.kind_at-kind-in-loop-kind.ensures,
       λ n m. inv.2 n (elim c.if-kind_at-eq-TEST.branch [
         | then-kind_at-eq-TEST w ↦ moves_tested nine fa fb c.kind_at.ensures w.if-kind_at-eq-TEST.true w.q-is m
