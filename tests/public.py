@@ -1,5 +1,5 @@
 """Holds the list of public functions to the sources. A public function is one that another crate can call: a `pub fn` in a crate's lib.rt or in
-a module that lib.rt makes public. Each has its field in crates/outcomes/specs/OneOutcome.antt, by name, and its row in docs/PROMISES.md; one that
+a module that lib.rt makes public, or of a public type there. Each has its field in crates/outcomes/specs/OneOutcome.antt, by name, and its row in docs/PROMISES.md; one that
 requires something has its row under "What functions require". What the crate for C exports is each function of the front door, under its name and with
 its contract. And every wrong program of docs/PROMISES.md is an edit, and every edit is there."""
 import pathlib
@@ -12,6 +12,9 @@ NO_OUTCOME = {"listing::run"}
 # No crate can cite a static library, so what this one exports has no fields: its contracts are those of the front door, word for word.
 FRONT_DOOR, EXPORTED = "pasturequill", "pasturequill_c"
 FUNCTION = re.compile(r'^pub (?:extern "C" )?fn (\w+)(.*?)(?:^\{|\{$)', re.M | re.S)
+# The methods of a type that is public itself.
+METHODS = re.compile(r"^impl(?:<[^>]*>)? (\w+)(?:<[^>]*>)? \{\n(.*?)^\}$", re.M | re.S)
+METHOD = re.compile(r"^    pub fn (\w+)(.*?)(?:^    \{|\{$)", re.M | re.S)
 
 def public_functions():
     """Yields (path by crates, path in proofs, contract) of each."""
@@ -24,9 +27,14 @@ def public_functions():
         for module in re.findall(r"^pub mod (\w+);", lib.read_text(), re.M):
             modules[module] = lib.with_name(module + ".rt")
         for module, path in modules.items():
-            for found in FUNCTION.finditer(path.read_text()):
-                parts = [name] + ([module] if module else []) + [found[1]]
-                yield "::".join(parts), parts, found[2]
+            text, place = path.read_text(), [name] + ([module] if module else [])
+            for found in FUNCTION.finditer(text):
+                yield "::".join(place + [found[1]]), place + [found[1]], found[2]
+            for block in METHODS.finditer(text):
+                if re.search(rf"^pub (?:struct|enum) {block[1]}\b", text, re.M):
+                    for found in METHOD.finditer(block[2]):
+                        parts = place + [block[1], found[1]]
+                        yield "::".join(parts), parts, found[2]
 
 def contracts(crate):
     """Each public function of a crate's lib.rt with its parameters and clauses, however they are laid out."""
@@ -40,15 +48,16 @@ def main():
     faults, count = [], 0
     for path, parts, contract in public_functions():
         count += 1
-        where = ".".join([parts[0], "proofs"] + parts[1:-1])
-        field = f"{alias.get(where, '?')}.{parts[-1]}.Reads.Post"
+        places = [".".join([parts[0], "proofs"] + parts[1:end]) for end in range(len(parts) - 1, 0, -1)]
+        where = next((place for place in places if place in alias), "?")
+        field = ".".join([alias.get(where, "?")] + parts[len(parts) - 1 - places.index(where) :] if where in alias else ["?"]) + ".Reads.Post"
         if path not in NO_OUTCOME and not re.search(rf"(?<![\w.]){re.escape(field)}(?![\w.])", outcomes):
             faults.append(f"{path} has no field in OneOutcome")
         named = parts[-1] if parts[0] == "pasturequill" else path
         if f"`{named}`" not in promises:
             faults.append(f"{path} has no row in docs/PROMISES.md")
         required = promises.split("## What functions require")[-1].split("\n## ")[0]
-        if ("requires {" in contract) != (f"`{path}`" in required):
+        if bool(re.search(r"requires(?: \w+)? \{", contract)) != (f"`{path}`" in required):
             faults.append(f"{path}: what it requires and docs/PROMISES.md differ")
     inside, outside = contracts(FRONT_DOOR), contracts(EXPORTED)
     faults += [f"{EXPORTED} and {FRONT_DOOR} differ at {name}" for name in sorted(inside.keys() | outside.keys()) if inside.get(name) != outside.get(name)]

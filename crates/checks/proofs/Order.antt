@@ -1,6 +1,6 @@
 -- One record's first refusal by those of its fields. The conditions are numbered in their order, so of two fields' refusals
 -- the one with the lesser number comes first: the conditions of both, number by number, are gone through from the last.
-use Prim.Native.Nat.{ℕ, zero, suc, ◌<◌}
+use Prim.Native.Nat.{ℕ, zero, suc, ◌<◌, min}
 use mathlib.Core.Path.{◌≡◌, refl}
 use mathlib.Core.Bool.{Bool, true, false, cond, not, ◌||◌, or_assoc}
 use mathlib.Core.List.{List}
@@ -8,17 +8,23 @@ use mathlib.Core.Logic.{◌⊎◌, inl, inr}
 use native.Mathlib.Omega.{arith}
 use borrow.Author.Tests.{ne_eqb}
 use lib.Dec.{eqb}
-use Rattle.meaning.specs.Record.{Language, kind_at, zero_byte, known}
+use Rattle.meaning.specs.Record.{Language, Use, kind_at, zero_byte, known}
 use Rattle.meaning.specs.Refusal.{of_first, first_of, record_grounds, ground2, ground3, ground4, ground5, ground6}
-use Rattle.shapes.specs.Uses.{use_of}
+use Rattle.refusals.specs.declared.Refusal.{Refusal}
+use Rattle.refusals.specs.Refused.{number_of}
+use Rattle.refusals.proofs.Answered.{positive}
 use Rattle.checks.specs.Places.{field_grounds, fields_grounds, sooner}
-use Rattle.checks.proofs.Fields.{Read, use_again}
+use Rattle.checks.proofs.Fields.{Read}
 
 pub none_sooner : (x y : ℕ) → sooner x y ≡ 0 → (x ≡ 0) × (y ≡ 0)
 none_sooner zero y e = (refl, e)
 none_sooner (suc x) zero e = let h = rw (ne_eqb (suc x) 0 (λ z. omega arith)) at e in absurd (omega arith)
 none_sooner (suc x) (suc y) e =
     let h = rw (ne_eqb (suc x) 0 (λ z. omega arith), ne_eqb (suc y) 0 (λ z. omega arith)) at e in absurd (omega arith)
+
+-- Of two refusals it is the lesser number.
+pub of_two : (p q : Refusal) → sooner (number_of p) (number_of q) ≡ min (number_of p) (number_of q)
+of_two p q = rw (ne_eqb (number_of p) 0 (λ z. omega (arith, positive p)), ne_eqb (number_of q) 0 (λ z. omega (arith, positive q)))
 
 -- None, or one that comes after n.
 abbrev Later : ℕ → ℕ → Type 0
@@ -64,9 +70,8 @@ unfolding of_first fields_grounds record_grounds ground2 ground3
 by_record ℓ s A r = simp (or_assoc, cond_or)
 
 -- The fields as the code reads them.
-pub by_fields : (s : List ℕ) (A r : ℕ) {ua ub a b x y : ℕ} → Read s r ua ub a b
-    → x ≡ first_of (field_grounds s A r (use_of ua) a) → y ≡ first_of (field_grounds s A r (use_of ub) b)
+pub by_fields : (s : List ℕ) (A r : ℕ) {held_a held_b : Use} {a b x y : ℕ} → Read s r held_a held_b a b
+    → x ≡ first_of (field_grounds s A r held_a a) → y ≡ first_of (field_grounds s A r held_b b)
     → sooner x y ≡ first_of (fields_grounds s A r)
 unfolding of_first field_grounds fields_grounds ground4 ground5 ground6
-by_fields s A r read ex ey =
-    simp (ex, ey, read.use_a_of, read.use_b_of, read.at_a, read.at_b, use_again, cond_or, woven)
+by_fields s A r read ex ey = simp (ex, ey, read.use_a_of, read.use_b_of, read.at_a, read.at_b, cond_or, woven)

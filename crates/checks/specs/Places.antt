@@ -2,14 +2,15 @@
 -- it keeps on the way.
 --   field_grounds s A r held v      the conditions 3 to 6 on one field of record r, which holds that and has v in it
 --   fields_grounds s A r            those on both
---   sooner x y                      of two refusals the one with the lesser number; 0 is none
+--   sooner x y                      of two refusals' numbers the lesser one; 0 is none
 --   Places s m counts               count i is in how many places of the first m records record i is the child, two or more where it says 2
---   FieldTaken s A r u v old new x x is the field's first refusal; where it is 0, the field's child is counted
---   Taken gs s m counts x          x is the first of the refusals gs; where it is 0, the counts are those of the first m records
-use Rattle.std.specs.Prelude.{ℕ, ◌+◌, ◌<◌, ◌≤◌, min, ◌≡◌, cond, ◌||◌, List, [], ◌∷◌, eqb, length, get_or}
+--   FieldTaken s A r held v old new answer   the answer is the field's first refusal; where there is none, the field's child is counted
+--   Taken gs s m counts answer      the answer is the first of the refusals gs; where there is none, the counts are those of the first m records
+use Rattle.std.specs.Prelude.{ℕ, ◌+◌, ◌<◌, ◌≤◌, min, ◌≡◌, cond, ◌||◌, List, [], ◌∷◌, eqb, length, get_or, Result}
 use Rattle.meaning.specs.Record.{Use, most_records, kind_at, use_a, use_b, field_a, field_b, names, places_in}
 use Rattle.meaning.specs.Refusal.{Ground, ground, first_of, stray, late, beyond, misfit, ground4, ground5, ground6}
-use Rattle.shapes.specs.Uses.{use_of}
+use Rattle.refusals.specs.declared.Refusal.{Refusal}
+use Rattle.refusals.specs.Refused.{refused}
 
 unfoldable pub field_grounds : List ℕ → ℕ → ℕ → Use → ℕ → List Ground
 field_grounds s A r held v =
@@ -26,12 +27,12 @@ pub record Places (s : List ℕ) (m : ℕ) (counts : List ℕ) : Type 0 where
   pub size : length counts ≡ most_records
   pub counted : (i : ℕ) → i < most_records → get_or counts i 0 ≡ min 2 (places_in s i m)
 
-pub record FieldTaken (s : List ℕ) (A r u v : ℕ) (old new : List ℕ) (x : ℕ) : Type 0 where
-  pub refusal : x ≡ first_of (field_grounds s A r (use_of u) v)
+pub record FieldTaken (s : List ℕ) (A r : ℕ) (held : Use) (v : ℕ) (old new : List ℕ) (answer : Result Unit Refusal) : Type 0 where
+  pub refusal : refused answer ≡ first_of (field_grounds s A r held v)
   pub size : length new ≡ most_records
-  pub counted : x ≡ 0 → (i : ℕ) → i < most_records → get_or old i 0 ≤ 2
-      → get_or new i 0 ≡ min 2 (get_or old i 0 + names (use_of u) v i)
+  pub counted : refused answer ≡ 0 → (i : ℕ) → i < most_records → get_or old i 0 ≤ 2
+      → get_or new i 0 ≡ min 2 (get_or old i 0 + names held v i)
 
-pub record Taken (gs : List Ground) (s : List ℕ) (m : ℕ) (counts : List ℕ) (x : ℕ) : Type 0 where
-  pub refusal : x ≡ first_of gs
-  pub places : x ≡ 0 → Places s m counts
+pub record Taken (gs : List Ground) (s : List ℕ) (m : ℕ) (counts : List ℕ) (answer : Result Unit Refusal) : Type 0 where
+  pub refusal : refused answer ≡ first_of gs
+  pub places : refused answer ≡ 0 → Places s m counts

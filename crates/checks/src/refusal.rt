@@ -2,15 +2,21 @@
 // in the same pass.
 ghost use Rattle.std.specs.Prelude.{◌≡◌, [], ◌∷◌, pred, min, ◌+◌, ◌<◌, ◌≤◌, length};
 ghost use Rattle.meaning.specs.Run.{each};
-ghost use Rattle.meaning.specs.Record.{count, most_records, kind_byte};
+ghost use Rattle.meaning.specs.Record.{count, most_records};
 ghost use Rattle.meaning.specs.Refusal.{first_of, ground, ground1, ground7, record_grounds, tree_grounds};
-ghost use Rattle.shapes.specs.Uses.{language_of};
+ghost use Rattle.shapes.specs.Uses.{use_meant, language_meant};
+ghost use Rattle.refusals.specs.Refused.{refused};
 ghost use Rattle.checks.specs.Places.{Places, FieldTaken, Taken, sooner, fields_grounds};
 
 use records::layout;
+use refusals::Refusal;
+use shapes::{Language, Sort, Use};
 
-// In how many places each record is the child; more than one is as good as two.
+// In how many places each record is the child, a byte each: 0, 1, or 2 for more than one.
 type Counts = [u8; layout::MOST_RECORDS];
+
+// The records, the language, the atoms and the counts stay parameters of the functions below: a struct that borrows them is no plainer,
+// since the clauses would name each of them through it.
 
 // ---- the length
 // 1: no records, a part of one, or over 255.
@@ -18,13 +24,7 @@ type Counts = [u8; layout::MOST_RECORDS];
 fn wrong_length(s: &[u8]) -> bool
     ensures { result ≡ (ground1 s.now).applies }
 {
-    if s.len() == 0 {
-        return true;
-    }
-    if s.len() % layout::RECORD_SIZE != 0 {
-        return true;
-    }
-    layout::RECORD_SIZE * layout::MOST_RECORDS < s.len()
+    s.is_empty() || s.len() % layout::RECORD_SIZE != 0 || layout::MOST_BYTES < s.len()
 }
 
 // ---- one field
@@ -32,153 +32,153 @@ fn wrong_length(s: &[u8]) -> bool
 fn one_more(count: u8) -> u8
     ensures { result ≡ min 2 (count + 1) }
 {
-    if count == 0 {
-        return 1;
-    }
-    2
+    count.min(1) + 1
 }
 
-// The first of 3 to 6 that applies to a field of record r: u says what the field is for, and v is what it holds. If none does, its
-// child is counted.
-fn field_refusal(s: &[u8], atoms: u64, counts: &mut Counts, r: usize, u: u8, v: usize) -> u8
-    requires { (r < count s.now) × (count s.now ≤ most_records) × (u ≤ 3) × (length counts.old ≡ most_records) }
-    ensures { FieldTaken s.now atoms r u v counts.old counts.new result }
+// The first of 3 to 6 that applies to a field of record r, which is there for `held` and has v in it. If none does, its child is counted.
+#[tactic(auto, unfolding(crate::specs::Places::field_grounds, meaning::specs::Refusal::of_first, meaning::specs::Refusal::stray, meaning::specs::Refusal::late, meaning::specs::Refusal::beyond, meaning::specs::Refusal::misfit, meaning::specs::Record::names))]
+fn field_refusal(
+    s: &[u8],
+    atoms: u64,
+    counts: &mut Counts,
+    r: usize,
+    held: Use,
+    v: usize,
+) -> Result<(), Refusal>
+    requires { (r < count s.now) × (count s.now ≤ most_records) × (length counts.old ≡ most_records) }
+    ensures { FieldTaken s.now atoms r (use_meant held) v counts.old counts.new result }
 {
-    // 3: an unused field that isn't zero.
-    if u == shapes::UNUSED {
-        if v != 0 {
-            return refusals::NOT_ZERO;
+    match held {
+        // 3: an unused field that isn't zero.
+        Use::Unused if v != 0 => Err(Refusal::NotZero),
+        // 5: an atom number that is too large. The library has no `From` that makes a usize a u64.
+        Use::AtomNumber if atoms <= v as u64 => Err(Refusal::NoSuchAtom),
+        Use::Child(sort) => {
+            // 4: a child that isn't earlier.
+            if r <= v {
+                return Err(Refusal::LateChild);
+            }
+            // 6: a child of the wrong sort.
+            if shapes::sort_of(layout::kind_of(s, v)) != sort {
+                return Err(Refusal::WrongSort);
+            }
+            counts[v] = one_more(counts[v]);
+            Ok(())
         }
-        return refusals::ACCEPTED;
+        _ => Ok(()),
     }
-    // 5: an atom number that is too large.
-    if u == shapes::ATOM_NUMBER {
-        if atoms <= v as u64 {
-            return refusals::NO_SUCH_ATOM;
-        }
-        return refusals::ACCEPTED;
-    }
-    // 4: a child that isn't earlier.
-    if r <= v {
-        return refusals::LATE_CHILD;
-    }
-    // 6: a child of the wrong sort.
-    if shapes::sort_of(layout::kind_at(s, v)) != u {
-        return refusals::WRONG_SORT;
-    }
-    counts[v] = one_more(counts[v]);
-    refusals::ACCEPTED
 }
 
 // ---- one record
-// Of two refusals the one with the lesser number; 0 is none.
-fn sooner(x: u8, y: u8) -> u8
-    ensures { result ≡ sooner x y }
+// Of two refusals the one with the lesser number; each case makes its answer anew, so that in a record without a refusal nothing is moved.
+#[tactic(auto, using(crate::proofs::Order::of_two))]
+fn sooner(x: Result<(), Refusal>, y: Result<(), Refusal>) -> Result<(), Refusal>
+    ensures { refused result ≡ sooner (refused x) (refused y) }
 {
-    if x == refusals::ACCEPTED {
-        return y;
+    match (x, y) {
+        (Ok(()), Ok(())) => Ok(()),
+        (Err(p), Err(q)) if u8::from(q) < u8::from(p) => Err(q),
+        (Err(p), _) => Err(p),
+        (_, Err(q)) => Err(q),
     }
-    if y == refusals::ACCEPTED {
-        return x;
-    }
-    if x < y {
-        return x;
-    }
-    y
 }
 
 // The first of 3 to 6 that applies to a field of record r. If none does, its children are counted.
-#[tactic(auto, using(crate::proofs::Fields::code_small))]
-fn fields_refusal(s: &[u8], atoms: u64, counts: &mut Counts, r: usize, kind: u8) -> u8
-    requires { (r < count s.now) × (count s.now ≤ most_records) × (kind ≡ kind_byte s.now r) × Places s.now r counts.old }
+fn fields_refusal(s: &[u8], atoms: u64, counts: &mut Counts, r: usize) -> Result<(), Refusal>
+    requires { (r < count s.now) × (count s.now ≤ most_records) × Places s.now r counts.old }
     ensures { Taken (fields_grounds s.now atoms r) s.now (r + 1) counts.new result }
 {
-    let ua = shapes::use_a(kind);
-    let ub = shapes::use_b(kind);
+    // The kind is read here once more and both uses are asked for at once: then the compiled code has one jump by the kind, which is faster.
+    let kind = layout::kind_of(s, r);
+    let held_a = shapes::use_a(kind);
+    let held_b = shapes::use_b(kind);
     let a = layout::field_a(s, r);
+    let first = field_refusal(s, atoms, counts, r, held_a, a);
     let b = layout::field_b(s, r);
-    let x = field_refusal(s, atoms, counts, r, ua, a);
-    let y = field_refusal(s, atoms, counts, r, ub, b);
-    sooner(x, y)
+    let second = field_refusal(s, atoms, counts, r, held_b, b);
+    sooner(first, second)
 }
 
 // The first of 2 to 6 that applies to record r. If none does, its children are counted.
-fn record_refusal(s: &[u8], language: u8, atoms: u64, counts: &mut Counts, r: usize) -> u8
+fn record_refusal(
+    s: &[u8],
+    language: Language,
+    atoms: u64,
+    counts: &mut Counts,
+    r: usize,
+) -> Result<(), Refusal>
     requires { (r < count s.now) × (count s.now ≤ most_records) × Places s.now r counts.old }
-    ensures { Taken (record_grounds (language_of language) s.now atoms r) s.now (r + 1) counts.new result }
+    ensures { Taken (record_grounds (language_meant language) s.now atoms r) s.now (r + 1) counts.new result }
 {
-    let kind = layout::kind_at(s, r);
+    let kind = layout::kind_of(s, r);
     if !shapes::takes(language, kind) {
-        return refusals::UNKNOWN_KIND;
+        return Err(Refusal::UnknownKind);
     }
     if layout::zero_at(s, r) != 0 {
-        return refusals::NOT_ZERO;
+        return Err(Refusal::NotZero);
     }
-    fields_refusal(s, atoms, counts, r, kind)
+    fields_refusal(s, atoms, counts, r)
 }
 
 // ---- all records
 // The first of 2 to 6 that applies to a record. If none does, the counts say in how many places each record is the child.
-fn records_refusal(s: &[u8], language: u8, atoms: u64, counts: &mut Counts) -> u8
+fn records_refusal(
+    s: &[u8],
+    language: Language,
+    atoms: u64,
+    counts: &mut Counts,
+) -> Result<(), Refusal>
     requires { (count s.now ≤ most_records) × Places s.now 0 counts.old }
-    ensures { Taken (each (count s.now) (record_grounds (language_of language) s.now atoms)) s.now (count s.now) counts.new result }
+    ensures { Taken (each (count s.now) (record_grounds (language_meant language) s.now atoms)) s.now (count s.now) counts.new result }
 {
-    let n = layout::record_count(s);
-    let mut r: usize = 0;
-    while r < n {
-        let x = record_refusal(s, language, atoms, counts, r);
-        if x != refusals::ACCEPTED {
-            return x;
-        }
-        r += 1;
+    for r in 0..layout::record_count(s) {
+        record_refusal(s, language, atoms, counts, r)?;
     }
-    refusals::ACCEPTED
+    Ok(())
 }
 
 // 7: a record before the last isn't the child of one place.
-#[tactic(auto, using(crate::proofs::Counting::passed_none, crate::proofs::Counting::passed_more, crate::proofs::Counting::passed_or, crate::proofs::Counting::passed_done))]
-fn places_refusal(s: &[u8], counts: &Counts) -> u8
+fn places_refusal(s: &[u8], counts: &Counts) -> Result<(), Refusal>
     requires { (0 < count s.now) × (count s.now ≤ most_records) × Places s.now (count s.now) counts.now }
-    ensures { result ≡ first_of (each (pred (count s.now)) (λ q. ground7 s.now q ∷ [])) }
+    ensures { refused result ≡ first_of (each (pred (count s.now)) (λ q. ground7 s.now q ∷ [])) }
 {
     let last = layout::record_count(s) - 1;
-    let mut q: usize = 0;
-    while q < last {
-        if counts[q] != 1 {
-            return refusals::NOT_A_TREE;
-        }
-        q += 1;
+    if counts[..last].iter().any(|count| *count != 1) {
+        return Err(Refusal::NotATree);
     }
-    refusals::ACCEPTED
+    Ok(())
 }
 
 // ---- the records as a tree
-fn tree_refusal(s: &[u8], language: u8, atoms: u64) -> u8
+fn tree_refusal(s: &[u8], language: Language, atoms: u64) -> Result<(), Refusal>
     requires { (0 < count s.now) × (count s.now ≤ most_records) }
-    ensures { result ≡ first_of (tree_grounds (language_of language) s.now atoms) }
+    ensures { refused result ≡ first_of (tree_grounds (language_meant language) s.now atoms) }
 {
-    let mut counts = [0u8; layout::MOST_RECORDS];
-    let x = records_refusal(s, language, atoms, &mut counts);
-    if x != refusals::ACCEPTED {
-        return x;
-    }
+    let mut counts = [0; layout::MOST_RECORDS];
+    records_refusal(s, language, atoms, &mut counts)?;
     let last = layout::record_count(s) - 1;
-    if shapes::sort_of(layout::kind_at(s, last)) != shapes::FORMULA {
-        return refusals::WRONG_SORT;
+    match shapes::sort_of(layout::kind_of(s, last)) {
+        Sort::Formula => places_refusal(s, &counts),
+        Sort::Path => Err(Refusal::WrongSort),
     }
-    places_refusal(s, &counts)
 }
 
 // ---- what every service asks of a formula
 // 1; then 8, as the service itself found; then those of the records.
-pub fn formula_refusal(s: &[u8], language: u8, atoms: u64, wrong_size: bool) -> u8
-    ensures { result ≡ first_of (ground1 s.now ∷ ground 8 wrong_size ∷ tree_grounds (language_of language) s.now atoms) }
+#[tactic(auto, using(meaning::proofs::Accepted::ground1_fails), unfolding(meaning::specs::Refusal::of_first, meaning::specs::Refusal::ground1))]
+pub fn formula_refusal(
+    s: &[u8],
+    language: Language,
+    atoms: u64,
+    wrong_size: bool,
+) -> Result<(), Refusal>
+    ensures { refused result ≡ first_of (ground1 s.now ∷ ground 8 wrong_size ∷ tree_grounds (language_meant language) s.now atoms) }
 {
     if wrong_length(s) {
-        return refusals::WRONG_LENGTH;
+        return Err(Refusal::WrongLength);
     }
     if wrong_size {
-        return refusals::WRONG_SIZE;
+        return Err(Refusal::WrongSize);
     }
     tree_refusal(s, language, atoms)
 }

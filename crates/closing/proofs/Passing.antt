@@ -19,14 +19,6 @@ pub stand_marked : {old s : List ℕ} {l n : ℕ} → l ≤ width → length old
 unfolding no_pass
 stand_marked {old} u size = diagonal_self {base = λ m. get_or old m 0} u size (λ m h. refl)
 
-pub passing_none : {mid from : ℕ} {s : List ℕ} → length s ≡ area → PassedRows mid from from s s
-passing_none e = record {
-  size = e;
-  passed = λ k j a b l. absurd (omega arith);
-  before = λ k j h l. refl;
-  past = λ k j h l. refl;
-}
-
 -- Row k is made of itself, which no turn before has changed, and of a copy f of row mid from before the first turn.
 pub passing_more : {mid from k : ℕ} {f : ℕ → ℕ} {old s new : List ℕ} → mid < width → from ≤ k → PassedRows mid from k old s
     → ((j : ℕ) → j < width → f j ≡ at old mid j) → Passed k (at s k mid) f s new → PassedRows mid from (k + 1) old new

@@ -10,10 +10,6 @@ use Rattle.meaning.specs.Run.{each, written}
 use Rattle.meaning.proofs.{Runs.each_more, Stores.sets_append, Stores.sets_written}
 use Rattle.copying.specs.Appended.{Appended}
 
--- One member.
-pub append_one : (old : List ℕ) (at b : ℕ) → Appended old at (b ∷ []) (at + 1) (set old at b)
-append_one old at b = record { place = refl; whole = refl }
-
 module _ {old t mid : List ℕ} {at e : ℕ} (p : Appended old at t e mid) where
   pub append_length : length mid ≡ length old
   append_length = ap length p.whole ∙ length-sets old at t

@@ -1,2 +1,3 @@
--- What the proofs of several crates cite.
+-- What the proofs of several functions cite, and of the crates above.
 pub mod Appending
+pub mod Storing

@@ -3,6 +3,6 @@
 use Rattle.std.specs.Prelude.{ℕ, ◌+◌, ◌≡◌, List, length}
 use Rattle.std.proofs.lemmas.List.Edits.{sets}
 
-pub record Appended (old : List ℕ) (at : ℕ) (t : List ℕ) (e : ℕ) (new : List ℕ) : Type 0 where
+pub record Appended {T : Type 0} (old : List T) (at : ℕ) (t : List T) (e : ℕ) (new : List T) : Type 0 where
   pub place : e ≡ at + length t
   pub whole : new ≡ sets old at t

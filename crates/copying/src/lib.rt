@@ -1,17 +1,26 @@
-// Copying a buffer's first bytes to the start of an output.
+// Copying a buffer's first bytes to the start of an output, and items to a place of it.
 #![tactic(auto)]
 
-ghost use Rattle.std.specs.Prelude.{◌≡◌, ◌≤◌, length, take};
+ghost use Rattle.std.specs.Prelude.{◌≡◌, ◌+◌, ◌≤◌, length, take};
 ghost use Rattle.std.proofs.lemmas.List.Edits.{sets};
+ghost use Rattle.copying.specs.Appended.{Appended};
 
 // As many as `size` says.
 pub fn copy(buffer: &[u8], size: usize, out: &mut [u8])
     requires { (size ≤ length buffer.now) × (size ≤ length out.old) }
     ensures { out.new ≡ sets out.old 0 (take size buffer.now) }
 {
-    let mut i: usize = 0;
-    while i < size {
-        out[i] = buffer[i];
-        i += 1;
+    out[..size].copy_from_slice(&buffer[..size]);
+}
+
+// Stores the items from a place of the output on, and gives the place after them. One after the other, since the library's copy of a slice is
+// called for each, however few the items are.
+pub fn append<T: Copy>(out: &mut [T], at: usize, items: &[T]) -> usize
+    requires { at + length items.now ≤ length out.old }
+    ensures { Appended out.old at items.now result out.new }
+{
+    for (i, item) in items.iter().enumerate() {
+        out[at + i] = *item;
     }
+    at + items.len()
 }

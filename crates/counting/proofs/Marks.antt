@@ -1,41 +1,23 @@
 -- A formula's spelling has as many marks as the formula has records.
 use Prim.Native.Char.{code}
-use Prim.Native.Nat.{ℕ, zero, suc, ◌+◌, ◌/◌, ◌%◌, ◌*◌, ◌≤◌, ◌<◌}
+use Prim.Native.Nat.{ℕ, zero, suc, ◌+◌, ◌/◌, ◌%◌, ◌<◌}
 use mathlib.Core.Path.{◌≡◌, refl, sym, ap, ◌∙◌}
 use mathlib.Core.Bool.{Bool, true, false, cond, true≢false}
 use mathlib.Core.List.{List, [], ◌∷◌, ◌++◌}
 use mathlib.Core.Option.{Option, none, some}
 use native.Mathlib.Nat.{mod-lt}
-use native.Mathlib.Numerals.{add-one}
 use native.Mathlib.Omega.{arith}
 use lib.Dec.{ltb}
-use lib.ListN.{length, get_or, drop, drop_of_length-le}
-use lib.Seq.{drop-cons}
-use borrow.Author.Tests.{ne_eqb}
 use Rattle.meaning.specs.Record.{Mode, diamond, box, ahead, back}
 use Rattle.meaning.specs.Formula.{Form, Path}
 use Rattle.meaning.specs.Tree.{form_size, path_size}
 use Rattle.meaning.specs.Text.{decimal_in, decimal, mode_sign, move_sign, spell, spell_path, is_ahead, forward, forward_path, read, is_read, or_false, form_in}
 use Rattle.meaning.proofs.Fails.{and_holds}
-use Rattle.counting.specs.Marks.{is, mark, marks}
+use Rattle.std.proofs.lemmas.Bool.Decides.{nat_tests}
+use Rattle.std.proofs.lemmas.List.Recursion.{is_sum_by}
+use Rattle.std.specs.Prelude.{count_by}
+use Rattle.counting.specs.Marks.{is_mark, marks}
 use Rattle.meaning.proofs.Spelling.{reads}
-
--- The marks so far, and those that are left, are those of the text.
-pub record Marked (t : List ℕ) (i n : ℕ) : Type 0 where
-  pub within : i ≤ length t
-  pub low : n ≤ 7 * i
-  pub left : n + marks (drop i t) ≡ marks t
-
-module _ (t : List ℕ) (i n : ℕ) (a : Marked t i n) where
-  pub marked_more : (m : ℕ) → i < length t → (m ≡ mark (get_or t i 0)) × (m ≤ 7) → Marked t (i + 1) (n + m)
-  unfolding marks
-  marked_more m h k =
-      let first : marks (drop i t) ≡ mark (get_or t i 0) + marks (drop (i + 1) t) = rw (drop-cons t i 0 h, add-one) in
-      record { within = omega arith; low = omega (arith, a.low); left = omega (arith, k.0, a.left) }
-
-  pub marked_done : length t ≤ i → n ≡ marks t
-  unfolding marks
-  marked_done h = omega (arith, rw (drop_of_length-le t h) at a.left)
 
 marks_append : (x y : List ℕ) → marks (x ++ y) ≡ marks x + marks y
 unfolding marks
@@ -43,19 +25,9 @@ marks_append [] y = omega arith
 marks_append (b ∷ x) y = omega (arith, marks_append x y)
 
 -- Digits are no marks.
-digit_mark : (d : ℕ) → d < 10 → mark (code "0" + d) ≡ 0
-unfolding mark
-digit_mark d h =
-    let other : (c : ℕ) → (code "0" + d ≡ c → ⊥) → is (code "0" + d) c ≡ 0 = λ c n. rw (ne_eqb (code "0" + d) c n) in
-    rw (
-      other (code "#") (omega arith),
-      other (code "p") (omega arith),
-      other (code "&") (omega arith),
-      other (code "?") (omega arith),
-      other (code "*") (omega arith),
-      other (code "+") (omega arith),
-      other (code ";") (omega arith),
-    )
+digit_mark : (d : ℕ) → d < 10 → is_mark (code "0" + d) ≡ false
+unfolding is_mark
+digit_mark d h = grind (arith, nat_tests)
 
 decimal_marks : (m n : ℕ) → marks (decimal_in m n) ≡ 0
 unfolding decimal_in marks
@@ -67,12 +39,12 @@ decimal_marks (suc m) n = marks_append (cond (ltb n 10) [] (decimal_in m (n / 10
     go false x h = omega arith
 
 mode_mark : (m : Mode) → marks (mode_sign m) ≡ 1
-unfolding mode_sign marks mark
+unfolding mode_sign marks is_mark
 mode_mark diamond = refl
 mode_mark box = refl
 
 mutual
-  unfolding spell form_size forward forward_path is_ahead move_sign decimal marks mark
+  unfolding spell form_size forward forward_path is_ahead move_sign decimal marks is_mark
 
   form_marks : (F : Form) → forward F ≡ true → marks (spell F) ≡ form_size F
   form_marks (Form.constant false) h = refl
@@ -94,9 +66,13 @@ mutual
       simp marks_append (omega (arith, path_marks p x, path_marks q y))
   path_marks (Path.star p) h = omega (arith, path_marks p h)
 
-pub text_marks : (t : List ℕ) → is_read (read t) ≡ true → marks t ≡ form_size (form_in t)
+counted : (t : List ℕ) → marks t ≡ count_by is_mark t
+unfolding marks
+counted t = is_sum_by marks (λ b. cond (is_mark b) 1 0) refl (λ b t. refl) t
+
+pub text_marks : (t : List ℕ) → is_read (read t) ≡ true → count_by is_mark t ≡ form_size (form_in t)
 unfolding form_in is_read or_false
-text_marks t h = go (read t) refl h
+text_marks t h = sym (counted t) ∙ go (read t) refl h
   where
     go : (r : Option Form) → read t ≡ r → is_read r ≡ true → marks t ≡ form_size (or_false r)
     go none e k = absurd (true≢false (sym k))

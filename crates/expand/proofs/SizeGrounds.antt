@@ -1,105 +1,97 @@
 -- What the expander answers. Its grounds are those of the records, and after them 14 and 10, which look at the size of the whole tree: so
 -- a refusal of the records is the answer, and where there is none they are a tree and its size decides.
-use Prim.Native.Nat.{ℕ, pred, ◌*◌, ◌≤◌, min}
-use mathlib.Core.Path.{◌≡◌, sym, ap, ◌∙◌}
-use mathlib.Core.Logic.{inl, inr}
+use Prim.Native.Nat.{ℕ, pred, ◌+◌, ◌*◌, ◌<◌, ◌≤◌}
+use mathlib.Core.Path.{◌≡◌, refl, sym, ap, ◌∙◌}
 use mathlib.Core.List.{List}
-use native.Mathlib.Nat.{zero-add}
 use native.Mathlib.Omega.{arith}
-use lib.ListN.{length, take, drop}
-use borrow.Author.Tests.{ltb-false, eq-eqb, ne_eqb, lt-ltb}
-use lib.Seq.{take-append_seam, sets, length-sets}
-use Rattle.meaning.specs.Record.{full, count, record_size, most_records, formula}
+use lib.ListN.{length, take}
+use borrow.Author.Tests.{lt-ltb, le-ltb, ne_eqb}
+use Rattle.std.proofs.Common.{Result, Ok, Err}
+use Rattle.std.specs.Result.{IsErrAnd}
+use lib.Seq.{sets}
+use Rattle.meaning.specs.Record.{full, count, kind_at, sort_of, record_size, most_records}
 use Rattle.meaning.specs.Refusal.{of_first, first_of, ground10, ground14, formula_grounds, expand_grounds, whole_form}
 use Rattle.meaning.specs.{Run.written, Tree.form_at, Tree.tree_at, Tree.postorder, WellFormed.WellFormed}
 use Rattle.meaning.specs.Service.{accepted, expand_answer, expand_after}
-use Rattle.meaning.proofs.{Bounds.le_or_lt, Accepted.clear_well_formed, Stores.sets_written}
-use Rattle.meaning.proofs.First.{none_clear, clear_skip, found_stop}
-use Rattle.expand.specs.Expanding.{Expandable, bytes_at, size_at, many, size_grounds, Wrote, Expanded}
+use Rattle.meaning.proofs.{Accepted.clear_well_formed, Stores.front_copied}
+use Rattle.meaning.proofs.Accepted.{accepted as formed_if}
+use Rattle.meaning.proofs.First.{clear_skip, found_stop}
+use Rattle.refusals.specs.declared.Refusal.{Refusal}
+use Rattle.refusals.specs.Refused.{number_of, refused, counted}
+use Rattle.refusals.proofs.Answered.{positive}
+use Rattle.expand.specs.Expanding.{Expandable, bytes_at, size_at, Stored, Expanded}
 use Rattle.expand.specs.Steps.{tree_from, tree_size}
 use Rattle.expand.proofs.Sized.{tree_length}
 
--- ---- the size
--- Numbers of records that stop at 256 are refused as the numbers themselves are.
-capped : (n room : ℕ) → first_of (size_grounds (min many n) room) ≡ first_of (size_grounds n room)
-unfolding ground14 of_first
-capped n room = elim (le_or_lt n most_records) [
-  | inl few ↦ let e : min many n ≡ n = omega arith in rw e
-  | inr more ↦ rw (lt-ltb most_records (min many n) (omega arith), lt-ltb most_records n more)
-]
-
-size_fits : (n room : ℕ) → first_of (size_grounds n room) ≡ 0 → (n ≤ most_records) × (record_size * n ≤ room)
-unfolding ground14 ground10
-size_fits n room e =
-    let c = none_clear (size_grounds n room) (omega arith, (omega arith, tt)) e in
-    (ltb-false most_records n c.0, ltb-false room (record_size * n) c.1.0)
-
--- ---- the last record is the whole formula, and takes six bytes a record
-module _ (s : List ℕ) where
-  abbrev last : ℕ
-  last = pred (count s)
-
-  abbrev whole : List ℕ
-  whole = postorder (form_at s last)
-
-  whole_length : length whole ≡ record_size * whole_form s
-  unfolding tree_from tree_size
-  whole_length = tree_length formula (tree_at s last) 0
-
--- What was stored from a buffer's start on is what it begins with.
-take_front : (xs l : List ℕ) → length xs ≤ length l → take (length xs) (sets l 0 xs) ≡ xs
-unfolding written
-take_front xs l h = rw (sets_written xs l h) (take-append_seam xs (drop (length xs) l))
-
--- ---- what was written into the buffer, of which only the length matters before
-module _ {s : List ℕ} (w : Expandable s (last s)) {e : ℕ} {old buffer : List ℕ} (full : length old ≡ record_size * most_records)
-    (p : Wrote (bytes_at s (last s) 0) 0 (size_at s (last s)) old e buffer) where
-  size : e ≡ min many (whole_form s)
+-- ---- the size decides: q is the last record, which is the whole formula
+module _ {s : List ℕ} {q : ℕ} (w : Expandable s (pred (count s))) (last : q ≡ pred (count s)) where
+  size : size_at s q ≡ whole_form s
   unfolding tree_size
-  size = p.next ∙ rw (w.formed.last, zero-add)
+  size = rw (last, w.formed.last)
 
-  module _ (out : List ℕ) {x : ℕ} (test : x ≡ first_of (size_grounds e (length out))) where
-    sized : x ≡ first_of (size_grounds (whole_form s) (length out))
-    sized = test ∙ rw size (capped _ _)
+  bytes : bytes_at s q 0 ≡ postorder (form_at s (pred (count s)))
+  unfolding tree_from
+  bytes = rw (last, w.formed.last)
 
-    pub size_refused : (x ≡ 0 → ⊥) → Expanded s out x 0 out
-    size_refused f = let n = ne_eqb x 0 f in record { sized = sized; counted = rw n; stored = rw n }
+  pub too_long : (out : List ℕ) → most_records < 0 + size_at s q → Expanded s out 14 0 out
+  unfolding of_first ground14
+  too_long out h = let more : most_records < whole_form s = omega (arith, size) in
+      record { sized = rw (lt-ltb most_records (whole_form s) more); counted = refl; stored = refl }
 
-    module _ (z : x ≡ 0) where
-      fit : (e ≤ most_records) × (record_size * e ≤ length out)
-      fit = size_fits e (length out) (sym test ∙ z)
+  module _ {e : ℕ} {old buffer : List ℕ} (full : length old ≡ record_size * most_records)
+      (p : Stored (bytes_at s q 0) 0 (size_at s q) old e buffer) where
+    whole : whole_form s ≡ e
+    whole = omega (arith, size, p.next)
 
-      made : buffer ≡ sets old 0 (whole s)
-      unfolding tree_from
-      made = p.whole fit.0 ∙ rw w.formed.last
+    pub no_room : (out : List ℕ) → length out < record_size * e → Expanded s out 10 0 out
+    unfolding of_first ground14 ground10
+    no_room out h = record {
+      sized = rw (whole, le-ltb most_records e p.few, lt-ltb (length out) (record_size * e) h);
+      counted = refl;
+      stored = refl;
+    }
 
-      pub size_fitting : (length buffer ≡ record_size * most_records) × (record_size * e ≤ length buffer) × (record_size * e ≤ length out)
-      size_fitting = let b = simp length-sets at (ap length made) ∙ full in (b, omega (arith, fit.0), fit.1)
+    pub copied : (out : List ℕ) {new : List ℕ} → record_size * e ≤ length out → new ≡ sets out 0 (take (record_size * e) buffer)
+        → Expanded s out 0 e new
+    unfolding of_first ground14 ground10
+    copied out h c =
+        let long : length (postorder (form_at s (pred (count s)))) ≡ record_size * e =
+        ap length (sym bytes) ∙ tree_length (sort_of (kind_at s q)) (tree_at s q) 0 ∙ ap (λ m. record_size * m) (size ∙ whole) in
+        record {
+          sized = rw (whole, le-ltb most_records e p.few, le-ltb (length out) (record_size * e) h);
+          counted = sym whole;
+          stored = c ∙ rw (p.whole, ← long, bytes) (front_copied _ old out (omega (arith, p.few)) (omega arith));
+        }
 
-      pub copied : {new : List ℕ} → new ≡ sets out 0 (take (record_size * e) buffer) → Expanded s out x e new
-      copied c =
-          let exact : e ≡ whole_form s = omega (arith, size, fit.0) in
-          let long : length (whole s) ≡ record_size * e = rw exact (whole_length s) in
-          let front : take (record_size * e) buffer ≡ whole s = rw (made, ← long) (take_front (whole s) old (omega (arith, fit.0))) in
-          let n = eq-eqb x 0 z in
-          record {
-            sized = sized;
-            counted = rw n exact;
-            stored = rw n (c ∙ rw front (sets_written (whole s) out (omega (arith, fit.1))));
-          }
+-- ---- the whole answer: refusal x, count n, and the output `new`
+pub record Outcome (s : List ℕ) (A : ℕ) (out : List ℕ) (x n : ℕ) (new : List ℕ) : Type 0 where
+  pub refusal : x ≡ (expand_answer s A (length out)).refusal
+  pub count : n ≡ (expand_answer s A (length out)).count
+  pub bytes : new ≡ expand_after s A out
 
--- ---- the whole answer
-module _ (s : List ℕ) (A room : ℕ) where
-  pub whole_sized : WellFormed full s A → first_of (size_grounds (whole_form s) room) ≡ first_of (expand_grounds s A room)
+module _ {s : List ℕ} (A : ℕ) (first : 0 ≡ first_of (formula_grounds full s A)) where
+  formed : WellFormed full s A
+  formed = (formed_if full s A).0 (sym first)
+
+  pub whole_formula : Expandable s (pred (count s))
+  whole_formula = record { atoms = A; formed = formed; index = omega (arith, formed.some) }
+
+module _ {s out : List ℕ} where
+  answers : {A x n : ℕ} {new : List ℕ} → x ≡ first_of (expand_grounds s A (length out)) → n ≡ accepted x (whole_form s) 0
+      → new ≡ accepted x (written (postorder (form_at s (pred (count s)))) out) out → Outcome s A out x n new
+  unfolding expand_answer expand_after
+  answers e size bytes = record { refusal = e; count = rw e at size; bytes = rw e at bytes }
+
+  pub records_refused : (x : Result ℕ Refusal) (r : Refusal) {A : ℕ} → IsErrAnd x (λ e. e ≡ r) → number_of r ≡ first_of (formula_grounds full s A)
+      → Outcome s A out (refused x) (counted x) out
   unfolding expand_grounds
-  whole_sized w = sym (clear_skip (formula_grounds full s A) _ ((clear_well_formed full s A).1 w))
+  records_refused (Ok n) r is first = absurd is
+  records_refused (Err e) r {A} is first =
+      let more = positive r in
+      let none = ne_eqb (number_of r) 0 (λ z. omega arith) in
+      rw is (answers (first ∙ sym (found_stop (formula_grounds full s A) _ (λ z. omega (arith, first)))) (rw none) (rw none))
 
-  pub whole_refused : {x : ℕ} → x ≡ first_of (formula_grounds full s A) → (x ≡ 0 → ⊥) → x ≡ first_of (expand_grounds s A room)
+  pub sized : (A : ℕ) {x n : ℕ} {new : List ℕ} → 0 ≡ first_of (formula_grounds full s A) → Expanded s out x n new → Outcome s A out x n new
   unfolding expand_grounds
-  whole_refused e n = e ∙ sym (found_stop (formula_grounds full s A) _ (λ z. n (e ∙ z)))
-
-pub answers : (s : List ℕ) (A : ℕ) (out : List ℕ) {x n : ℕ} {new : List ℕ} → x ≡ first_of (expand_grounds s A (length out)) → n ≡ accepted x (whole_form s) 0
-    → new ≡ accepted x (written (postorder (form_at s (pred (count s)))) out) out
-    → (x ≡ (expand_answer s A (length out)).refusal) × ((n ≡ (expand_answer s A (length out)).count) × (new ≡ expand_after s A out))
-unfolding expand_answer expand_after
-answers s A out e size bytes = (e, (rw e at size, rw e at bytes))
+  sized A first e =
+      answers (e.sized ∙ sym (clear_skip (formula_grounds full s A) _ ((clear_well_formed full s A).1 (formed A first)))) e.counted e.stored

@@ -2,16 +2,15 @@
 -- many records as its tree has.
 use Prim.Native.Nat.{ℕ, ◌+◌, ◌*◌}
 use mathlib.Core.Path.{◌≡◌, refl, ap}
-use mathlib.Core.Bool.{Bool, true, false, cond}
+use mathlib.Core.Bool.{true}
 use mathlib.Core.List.{List, [], ◌∷◌}
 use native.Mathlib.Omega.{arith}
-use lib.Dec.{ltb}
 use lib.ListN.{length, length-append}
-use Rattle.meaning.specs.Record.{full, Kind, record_size, Sort, formula, path, Use, unused, atomNumber, child, sort_of, known}
+use Rattle.meaning.specs.Record.{full, Kind, record_size, Sort, formula, path, Use, unused, atomNumber, child, use_a, use_b, sort_of, known}
 use Rattle.meaning.specs.Tree.{Tree, as_form, as_path, node_of, form_from, path_from, form_size, path_size}
 use Rattle.meaning.specs.Formula.{Form, Path}
-use Rattle.expand.specs.Steps.{part_a, steps_of, tree_from, tree_size, field_from, field_size, part_of, part_use, step_from, step_size}
-use Rattle.expand.specs.Steps.{next_under}
+use Rattle.expand.specs.Steps.{Step, part_a, part_b, atom, leaf, one, two, steps_of, tree_from, tree_size, field_from, field_size}
+use Rattle.expand.specs.Steps.{step_from, step_size, next_under}
 use Rattle.expand.proofs.Stepping.{steps_from, node_from}
 
 mutual
@@ -43,24 +42,22 @@ field_length unused t n = refl
 field_length atomNumber t n = refl
 field_length (child σ) t n = tree_length σ t n
 
--- One of two lists.
-by_test : (own : Bool) (xs ys : List ℕ) (m k : ℕ) → length xs ≡ record_size * m → length ys ≡ record_size * k
-    → length (cond own xs ys) ≡ record_size * cond own m k
-by_test true xs ys m k e h = e
-by_test false xs ys m k e h = h
-
 module _ (K : Kind) (a b : ℕ) (t : ℕ → Tree) where
-  pub step_length : (d under n : ℕ) → length (step_from K a b t d under n) ≡ record_size * step_size K a b t d
+  pub step_length : (d : Step) (under n : ℕ) → length (step_from K a b t d under n) ≡ record_size * step_size K a b t d
   unfolding step_from step_size
-  step_length d under n =
-      by_test (ltb d part_a) _ (field_from (part_use K d) (t (part_of d a b)) n) 1 _ refl (field_length (part_use K d) _ n)
+  step_length part_a under n = field_length (use_a K) (t a) n
+  step_length part_b under n = field_length (use_b K) (t b) n
+  step_length atom under n = refl
+  step_length (leaf own) under n = refl
+  step_length (one own) under n = refl
+  step_length (two own) under n = refl
 
   -- How many records a row of steps writes.
-  unfoldable pub steps_size : List ℕ → ℕ
+  unfoldable pub steps_size : List Step → ℕ
   steps_size [] = 0
   steps_size (d ∷ ds) = step_size K a b t d + steps_size ds
 
-  steps_length : (ds : List ℕ) (under n : ℕ) → length (steps_from K a b t ds under n) ≡ record_size * steps_size ds
+  steps_length : (ds : List Step) (under n : ℕ) → length (steps_from K a b t ds under n) ≡ record_size * steps_size ds
   unfolding steps_from steps_size
   steps_length [] under n = refl
   steps_length (d ∷ ds) under n =

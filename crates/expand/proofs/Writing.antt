@@ -1,102 +1,97 @@
--- Writing a record's steps one after the other. Numbers of records stop at 256: with what the steps that are left write, the number so far
--- stops where that of the record's tree does. Until then, what was written is put at the start's place, and what it lacks of the tree is
--- what the steps that are left write: so each step takes its part from what is left to what was written, and at the end nothing is left.
-use Prim.Native.Nat.{ℕ, ◌+◌, ◌*◌, ◌/◌, ◌%◌, ◌≤◌, min}
-use mathlib.Core.Path.{◌≡◌, refl, sym, ap, ◌∙◌}
+-- Writing a record's steps one after the other: what the steps that are left would write, stored after what was written, is the record's
+-- tree at the start's place. So each step takes its part from what is left, and at the end nothing is left.
+use Prim.Native.Nat.{ℕ, ◌+◌, ◌*◌, ◌<◌, ◌≤◌}
+use mathlib.Core.Path.{◌≡◌, ◌∙◌}
+use mathlib.Core.Bool.{true}
+use mathlib.Core.List.{List, ◌∷◌, map}
 use native.Mathlib.Nat.{le_refl}
 use native.Mathlib.Omega.{arith}
-use lib.Dec.{ltb}
-use lib.ListN.{length, length-append}
-use lib.Seq.{sets}
-use mathlib.Core.List.{append-nil, List, [], ◌++◌, append_assoc}
+use native.Mathlib.Numerals.{add-one}
+use lib.ListN.{length, get_or, drop, drop_of_length-le}
+use lib.Seq.{sets, drop-cons}
 use Rattle.meaning.specs.Record.{kind_at, field_a, field_b, record_size, most_records}
 use Rattle.meaning.specs.Tree.{tree_at}
-use Rattle.meaning.proofs.Stores.{sets_append}
-use Rattle.expand.specs.Expanding.{Expandable, bytes_at, size_at, step_bytes, step_count, many, Wrote}
-use Rattle.expand.specs.Steps.{no_child, byte, row_number, next_under}
-use Rattle.expand.proofs.Row.{Rest, rest_all, rest_none, FirstStep, rest_read}
-use Rattle.expand.proofs.Parts.{either, row_bytes, row_count, bytes_stepped, size_stepped}
+use Rattle.meaning.proofs.{Fails.and_holds, Stores.sets_append}
+use Rattle.expand.specs.Expanding.{Expandable, bytes_at, size_at, step_bytes, step_count, fits, Stored}
+use Rattle.expand.specs.Steps.{Step, part_a, part_b, atom, leaf, one, two, steps_of, next_under}
+use Rattle.expand.specs.Rows.{step_meant}
+use Rattle.expand.specs.declared.steps.Step as step
+use Rattle.expand.proofs.Parts.{all_fit, steps_fit, row_bytes, row_count, bytes_stepped, size_stepped}
 use Rattle.expand.proofs.{Stepping.steps_from, Sized.step_length, Sized.steps_size}
 
--- `done` was written from number `from` on, and the steps that are left write the rest of the tree.
-pub record Written (s : List ℕ) (r from : ℕ) (old left : List ℕ) (under n : ℕ) (out : List ℕ) : Type 0 where
-  pub done : List ℕ
-  pub place : record_size * n ≡ record_size * from + length done
-  pub whole : done ++ row_bytes s r left under n ≡ bytes_at s r from
-  pub wrote : out ≡ sets old (record_size * from) done
+-- What the steps of a row from step i on mean.
+abbrev left : List step.Step → ℕ → List Step
+left row i = map step_meant (drop i row)
+
+left_at : (row : List step.Step) (i : ℕ) → i < length row → left row i ≡ step_meant (get_or row i step.TheVariants.PartA) ∷ left row (i + 1)
+left_at row i h = rw (add-one, drop-cons row i step.TheVariants.PartA)
 
 -- The loop's invariant.
-pub record Going (s : List ℕ) (r from : ℕ) (old : List ℕ) (rest under n : ℕ) (out : List ℕ) : Type 0 where
-  pub steps : Rest (kind_at s r) rest
-  pub low : n ≤ many
+pub record Going (s : List ℕ) (r from : ℕ) (old : List ℕ) (row : List step.Step) (i under n : ℕ) (out : List ℕ) : Type 0 where
+  pub fit : all_fit (kind_at s r) (left row i) ≡ true
+  pub low : n ≤ most_records
   pub below : under ≤ n
-  pub counted : min many (n + row_count s r steps.left) ≡ min many (from + size_at s r)
-  pub written : n ≤ most_records → Written s r from old steps.left under n out
+  pub counted : n + row_count s r (left row i) ≡ from + size_at s r
+  pub whole : sets out (record_size * n) (row_bytes s r (left row i) under n) ≡ sets old (record_size * from) (bytes_at s r from)
 
-under_below : (d under n : ℕ) → under ≤ n → next_under d under n ≤ n
+under_below : (d : Step) (under n m : ℕ) → under ≤ n → n ≤ m → next_under d under n ≤ m
 unfolding next_under
-under_below d under n h = either (λ x. x ≤ n) (ltb d no_child) h (le_refl n)
+under_below part_a under n m h l = l
+under_below part_b under n m h l = l
+under_below atom under n m h l = l
+under_below (leaf own) under n m h l = l
+under_below (one own) under n m h l = omega arith
+under_below (two own) under n m h l = omega arith
 
--- A sum that stops on the way stops where the whole sum does.
-stops : (n x y : ℕ) → min many (min many (n + x) + y) ≡ min many (n + (x + y))
-stops n x y = omega arith
-
-module _ {s : List ℕ} {r from : ℕ} {old : List ℕ} where
-  pub going_none : {rest : ℕ} → Expandable s r → from ≤ many → rest ≡ row_number (kind_at s r) → Going s r from old rest from from old
+module _ {s : List ℕ} {r from : ℕ} {old : List ℕ} {row : List step.Step} where
+  pub going_none : Expandable s r → from ≤ most_records → map step_meant row ≡ steps_of (kind_at s r)
+      → Going s r from old row 0 from from old
   going_none w h e = record {
-    steps = rest_all _ e;
+    fit = rw e (steps_fit (kind_at s r));
     low = h;
     below = le_refl from;
-    counted = rw (size_stepped w);
-    written = λ _. record { done = []; place = omega arith; whole = sym (bytes_stepped w from); wrote = refl };
+    counted = rw (e, size_stepped w);
+    whole = rw (e, bytes_stepped w from);
   }
 
-  module _ {rest under n : ℕ} {out : List ℕ} (g : Going s r from old rest under n out) where
-    pub going_done : rest ≡ 1 → Wrote (bytes_at s r from) from (size_at s r) old n out
+  module _ {i under n : ℕ} {out : List ℕ} (g : Going s r from old row i under n out) where
+    pub going_done : length row ≤ i → Stored (bytes_at s r from) from (size_at s r) old n out
     unfolding steps_from steps_size
-    going_done e =
-        let none = rest_none g.steps e in
-        record {
-          next = omega (arith, g.low, rw none at g.counted);
-          whole = λ few.
-              let v = g.written few in
-              let full : v.done ≡ bytes_at s r from = sym (append-nil v.done) ∙ rw none at v.whole in
-              v.wrote ∙ rw full;
-        }
+    going_done h = record {
+      next = omega (arith, rw (drop_of_length-le row h) at g.counted);
+      few = g.low;
+      whole = rw (drop_of_length-le row h) at g.whole;
+    }
 
-    module _ (more : rest ≡ 1 → ⊥) where
-      pub going_next : FirstStep (kind_at s r) rest g.steps.left
-      going_next = rest_read g.steps more
+    module _ (h : i < length row) where
+      abbrev d : Step
+      d = step_meant (get_or row i step.TheVariants.PartA)
 
-      sizes : row_count s r g.steps.left ≡ step_count s r (rest % byte) + row_count s r going_next.past.left
+      fits_all : (fits (kind_at s r) d ≡ true) × (all_fit (kind_at s r) (left row (i + 1)) ≡ true)
+      unfolding all_fit
+      fits_all = (and_holds _ _).0 (rw (left_at row i h) at g.fit)
+
+      pub going_fits : fits (kind_at s r) d ≡ true
+      going_fits = fits_all.0
+
+      counts : n + (step_count s r d + row_count s r (left row (i + 1))) ≡ from + size_at s r
       unfolding steps_size
-      sizes = ap (row_count s r) going_next.all
+      counts = rw (left_at row i h) at g.counted
 
-      bytes : row_bytes s r g.steps.left under n
-          ≡ step_bytes s r (rest % byte) under n
-          ++ row_bytes s r going_next.past.left (next_under (rest % byte) under n) (n + step_count s r (rest % byte))
+      -- A step that does not end within 255 records is one of a tree that does not.
+      pub going_over : most_records < n + step_count s r d → most_records < from + size_at s r
+      going_over over = omega (arith, counts)
+
+      pub going_more : {e : ℕ} {new : List ℕ} → Stored (step_bytes s r d under n) n (step_count s r d) out e new
+          → Going s r from old row (i + 1) (next_under d under n) e new
       unfolding steps_from
-      bytes = ap (λ (ds : List ℕ). row_bytes s r ds under n) going_next.all
-
-      module _ {e u : ℕ} {new : List ℕ} (p : Wrote (step_bytes s r (rest % byte) under n) n (step_count s r (rest % byte)) out e new)
-          (h : u ≡ next_under (rest % byte) under n) where
-        written_more : e ≤ most_records → e ≡ n + step_count s r (rest % byte) → Written s r from old g.steps.left under n out
-            → Written s r from old going_next.past.left u e new
-        written_more few exact v =
-            let x = step_bytes s r (rest % byte) under n in
-            let long = step_length (kind_at s r) (field_a s r) (field_b s r) (tree_at s) (rest % byte) under n in
-            record {
-              done = v.done ++ x;
-              place = simp length-append (omega (arith, v.place, exact, long));
-              whole = rw (append_assoc, h, exact) (rw (← bytes) v.whole);
-              wrote = p.whole few ∙ rw (v.wrote, v.place) (sets_append v.done x old (record_size * from));
-            }
-
-        pub going_more : Going s r from old (rest / byte) u e new
-        going_more = record {
-          steps = going_next.past;
-          low = omega (arith, p.next);
-          below = omega (arith, h, p.next, g.low, under_below (rest % byte) under n g.below);
-          counted = rw p.next (stops n _ _ ∙ rw (← sizes) g.counted);
-          written = λ few. written_more few (omega (arith, p.next)) (g.written (omega (arith, p.next)));
-        }
+      going_more {e} {new} p =
+          let long = step_length (kind_at s r) (field_a s r) (field_b s r) (tree_at s) d under n in
+          let place : record_size * e ≡ record_size * n + length (step_bytes s r d under n) = omega (arith, p.next, long) in
+          record {
+            fit = fits_all.1;
+            low = p.few;
+            below = under_below d under n e g.below (omega (arith, p.next));
+            counted = omega (arith, p.next, counts);
+            whole = rw (place, p.whole, p.next) (sets_append (step_bytes s r d under n) _ out (record_size * n) ∙ rw (left_at row i h) at g.whole);
+          }

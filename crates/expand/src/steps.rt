@@ -1,132 +1,119 @@
 // What each kind is written as: a row of steps, in the order of the records that come out. Until is the tree of field a, a test, a step,
 // a sequence, a star, the tree of field b, a diamond.
-ghost use Rattle.std.specs.Prelude.{◌≡◌, pred, ◌<◌};
-ghost use Rattle.meaning.specs.Record.{count, field_a, field_b, kind_of};
-ghost use Rattle.expand.specs.Steps.{row_number, own_kind, own_a, own_b, part_of, next_under};
+ghost use Rattle.std.specs.Prelude.{◌≡◌, map};
+ghost use Rattle.records.specs.Kinds.{kind_meant};
+ghost use Rattle.expand.specs.Steps.{steps_of, next_under};
+ghost use Rattle.expand.specs.Rows.{step_meant};
 
-use records::{kind, layout};
+use Step::{Atom, Leaf, One, PartA, PartB, Two};
+use records::kind::{Kind, Mode, Shorthand, Way};
 
-// ---- a step is a byte
-// One that writes a record has the record's kind for its low digit, and the high digit says how many children it has: 0 is two, 1 is one, 2 is none.
-const ONE_CHILD: u8 = 0x10;
+// A kind of the core, by its number, which each record that is written begins with. A `Kind` in its place is slower: its number is looked up.
+#[derive(Clone, Copy, Debug, PartialEq, Eq)]
+pub enum Core {
+    False = 0,
+    True = 1,
+    Atom = 2,
+    Diamond = 3,
+    Box = 4,
+    Ahead = 5,
+    Back = 6,
+    Test = 7,
+    Choice = 8,
+    Sequence = 9,
+    Star = 10,
+}
 
-const NO_CHILD: u8 = 0x20;
+impl From<Core> for u8 {
+    ghost use Rattle.std.specs.Prelude.{◌≡◌};
+    ghost use Rattle.meaning.specs.Record.{number_of};
+    ghost use Rattle.expand.specs.Rows.{core_meant};
 
-// The one that writes an atom.
-const ATOM: u8 = 0x22;
+    ghost from_gives = { λ core number. number ≡ number_of (core_meant core) };
 
-// The one that writes the tree of field a; the next number writes that of field b.
-pub const PART_A: u8 = 0x3A;
+    #[tactic(auto, unfolding(meaning::specs::Record::number_of))]
+    fn from(core: Core) -> u8 {
+        core as u8
+    }
+}
 
-// ---- a row is one number: a byte for each step, to be read from the right, and a 1 after the last
-pub const BYTE: u64 = 256;
+// The tree of a field, or one record: an atom's, or one with no child, one child or two.
+#[derive(Clone, Copy, Debug, PartialEq, Eq)]
+pub enum Step {
+    PartA,
+    PartB,
+    Atom,
+    Leaf(Core),
+    One(Core),
+    Two(Core),
+}
 
-// The row with no step left.
-pub const DONE: u64 = 1;
+const FALSE: Step = Leaf(Core::False);
 
-// The table of all rows. As an array it would be laid on the stack at every call.
-#[tactic(auto, unfolding(meaning::specs::Record::kinds, meaning::specs::Record::kind_of, crate::specs::Steps::steps_of, crate::specs::Steps::digits, crate::specs::Steps::form_steps, crate::specs::Steps::path_steps, meaning::specs::Shorthand::expansion, meaning::specs::Record::number_of))]
-pub fn row_of(kind: u8) -> u64
-    ensures { result ≡ row_number (kind_of kind) }
+const TRUE: Step = Leaf(Core::True);
+
+const AHEAD: Step = Leaf(Core::Ahead);
+
+const BACK: Step = Leaf(Core::Back);
+
+const TEST: Step = One(Core::Test);
+
+const STAR: Step = One(Core::Star);
+
+const CHOICE: Step = Two(Core::Choice);
+
+const SEQUENCE: Step = Two(Core::Sequence);
+
+const DIAMOND: Step = Two(Core::Diamond);
+
+const BOX: Step = Two(Core::Box);
+
+// The table of all rows.
+#[tactic(auto, unfolding(crate::specs::Steps::steps_of, crate::specs::Steps::form_steps, crate::specs::Steps::path_steps, meaning::specs::Shorthand::expansion))]
+pub fn row_of(kind: Kind) -> &'static [Step]
+    ensures { map step_meant result.now ≡ steps_of (kind_meant kind) }
 {
     match kind {
-        kind::FALSE => 0x01_20,
-        kind::TRUE => 0x01_21,
-        kind::ATOM => 0x01_22,
-        kind::DIAMOND => 0x01_03_3B_3A,
-        kind::BOX => 0x01_04_3B_3A,
-        kind::STEP => 0x01_25,
-        kind::BACK => 0x01_26,
-        kind::TEST => 0x01_17_3A,
-        kind::CHOICE => 0x01_08_3B_3A,
-        kind::SEQUENCE => 0x01_09_3B_3A,
-        kind::STAR => 0x01_1A_3A,
-        kind::NOT => 0x01_04_20_17_3A,
-        kind::AND => 0x01_03_3B_17_3A,
-        kind::OR => 0x01_03_21_08_17_3B_17_3A,
-        kind::IMPLIES => 0x01_04_3B_17_3A,
-        kind::FINAL => 0x01_04_20_25,
-        kind::INITIAL => 0x01_04_20_26,
-        kind::NEXT => 0x01_03_3A_25,
-        kind::WEAK_NEXT => 0x01_04_3A_25,
-        kind::PREVIOUS => 0x01_03_3A_26,
-        kind::WEAK_PREVIOUS => 0x01_04_3A_26,
-        kind::EVENTUALLY => 0x01_03_3A_1A_25,
-        kind::ALWAYS => 0x01_04_3A_1A_25,
-        kind::ONCE => 0x01_03_3A_1A_26,
-        kind::SO_FAR => 0x01_04_3A_1A_26,
-        kind::UNTIL => 0x01_03_3B_1A_09_25_17_3A,
-        kind::SINCE => 0x01_03_3B_1A_09_26_17_3A,
-        _ => DONE, // no kind has another number
+        Kind::Constant(false) => &[FALSE],
+        Kind::Constant(true) => &[TRUE],
+        Kind::Atom => &[Atom],
+        Kind::Modal(Mode::Diamond) => &[PartA, PartB, DIAMOND],
+        Kind::Modal(Mode::Box) => &[PartA, PartB, BOX],
+        Kind::Move(Way::Ahead) => &[AHEAD],
+        Kind::Move(Way::Back) => &[BACK],
+        Kind::Test => &[PartA, TEST],
+        Kind::Choice => &[PartA, PartB, CHOICE],
+        Kind::Sequence => &[PartA, PartB, SEQUENCE],
+        Kind::Star => &[PartA, STAR],
+        Kind::Shorthand(shorthand) => match shorthand {
+            Shorthand::Denied => &[PartA, TEST, FALSE, BOX],
+            Shorthand::Both => &[PartA, TEST, PartB, DIAMOND],
+            Shorthand::Either => &[PartA, TEST, PartB, TEST, CHOICE, TRUE, DIAMOND],
+            Shorthand::Implies => &[PartA, TEST, PartB, BOX],
+            Shorthand::End(Way::Ahead) => &[AHEAD, FALSE, BOX],
+            Shorthand::End(Way::Back) => &[BACK, FALSE, BOX],
+            Shorthand::Beside(Way::Ahead, Mode::Diamond) => &[AHEAD, PartA, DIAMOND],
+            Shorthand::Beside(Way::Ahead, Mode::Box) => &[AHEAD, PartA, BOX],
+            Shorthand::Beside(Way::Back, Mode::Diamond) => &[BACK, PartA, DIAMOND],
+            Shorthand::Beside(Way::Back, Mode::Box) => &[BACK, PartA, BOX],
+            Shorthand::Along(Way::Ahead, Mode::Diamond) => &[AHEAD, STAR, PartA, DIAMOND],
+            Shorthand::Along(Way::Ahead, Mode::Box) => &[AHEAD, STAR, PartA, BOX],
+            Shorthand::Along(Way::Back, Mode::Diamond) => &[BACK, STAR, PartA, DIAMOND],
+            Shorthand::Along(Way::Back, Mode::Box) => &[BACK, STAR, PartA, BOX],
+            Shorthand::Until => &[PartA, TEST, AHEAD, SEQUENCE, STAR, PartB, DIAMOND],
+            Shorthand::Since => &[PartA, TEST, BACK, SEQUENCE, STAR, PartB, DIAMOND],
+        },
+        Kind::Unknown => &[],
     }
-}
-
-// The record whose tree a step from PART_A on writes, in record r.
-#[tactic(auto, unfolding(crate::specs::Steps::part_of))]
-pub fn part_of(records: &[u8], r: usize, step: u8) -> usize
-    requires { r < count records.now }
-    ensures { result ≡ part_of step (field_a records.now r) (field_b records.now r) }
-{
-    if step == PART_A {
-        return layout::field_a(records, r);
-    }
-    layout::field_b(records, r)
-}
-
-// The number before n; there is none before 0.
-fn one_less(n: usize) -> usize
-    ensures { result ≡ pred n }
-{
-    if n == 0 {
-        return 0;
-    }
-    n - 1
-}
-
-// ---- the record of a core kind that a step writes, and that gets the number n; where it has two children, the tree of the second begins
-// at `under`
-pub fn own_kind(step: u8) -> u8
-    ensures { result ≡ own_kind step }
-{
-    step % 16
-}
-
-// Field a: the first of two children, which is the one before the second's tree; the only child, which is the record before; an atom's
-// number a.
-#[tactic(auto, unfolding(crate::specs::Steps::own_a, meaning::specs::Record::number_of))]
-pub fn own_a(step: u8, a: usize, under: usize, n: usize) -> usize
-    ensures { result ≡ own_a step a under n }
-{
-    if step < ONE_CHILD {
-        return one_less(under);
-    }
-    if step < NO_CHILD {
-        return one_less(n);
-    }
-    if step == ATOM {
-        return a;
-    }
-    0
-}
-
-// Field b: the second of two children, which is the record before.
-#[tactic(auto, unfolding(crate::specs::Steps::own_b))]
-pub fn own_b(step: u8, n: usize) -> usize
-    ensures { result ≡ own_b step n }
-{
-    if step < ONE_CHILD {
-        return one_less(n);
-    }
-    0
 }
 
 // Where the second of two trees begins, after a step that began at number n: one that takes no tree for a child begins one.
 #[tactic(auto, unfolding(crate::specs::Steps::next_under))]
-pub fn next_under(step: u8, under: usize, n: usize) -> usize
-    ensures { result ≡ next_under step under n }
+pub fn next_under(step: Step, under: usize, n: usize) -> usize
+    ensures { result ≡ next_under (step_meant step) under n }
 {
-    if step < NO_CHILD {
-        return under;
+    match step {
+        One(_) | Two(_) => under,
+        _ => n,
     }
-    n
 }

@@ -1,14 +1,14 @@
 // Writing the tree of a record into a buffer, step by step; a step that writes a part goes down to that part, the record number falling.
-// Records beyond the 255th are left out, and the number after them is MANY, however many they are.
+// A tree that does not end within the 255 records of the buffer has no number after it. The number to write goes beside the buffer: what a
+// step's record has for children is told by numbers too.
 ghost use Rattle.std.specs.Prelude.{◌≡◌, true, ◌<◌, ◌≤◌};
-ghost use Rattle.meaning.specs.Record.{kind_at};
-ghost use Rattle.expand.specs.Expanding.{Expandable, bytes_at, size_at, step_bytes, step_count, fits, many, Wrote};
+ghost use Rattle.meaning.specs.Record.{kind_at, most_records, record_bytes};
+ghost use Rattle.expand.specs.Expanding.{Expandable, bytes_at, size_at, step_bytes, step_count, fits, Wrote};
+ghost use Rattle.expand.specs.Rows.{core_meant, step_meant};
 
 use crate::steps;
+use crate::steps::{Core, Step};
 use records::layout;
-
-// More than any formula may have.
-const MANY: usize = 256;
 
 // Writes the tree of record r from number `from` on, and gives the number after its last record.
 #[cycle(write_step_write_tree)]
@@ -17,48 +17,64 @@ pub fn write_tree(
     r: usize,
     buffer: &mut [u8; layout::MOST_BYTES],
     from: usize,
-) -> usize
-    requires { Expandable records.now r × (from ≤ many) }
+) -> Option<usize>
+    requires { Expandable records.now r × (from ≤ most_records) }
     ensures { Wrote (bytes_at records.now r from) from (size_at records.now r) buffer.old result buffer.new }
 {
-    let mut rest = steps::row_of(layout::kind_at(records, r));
     let mut under = from;
     let mut n = from;
-    while rest != steps::DONE {
-        let step = (rest % steps::BYTE) as u8;
-        let next = write_step(records, r, step, under, buffer, n);
+    for &step in steps::row_of(layout::kind_of(records, r)) {
+        let next = write_step(records, r, step, under, buffer, n)?;
         under = steps::next_under(step, under, n);
         n = next;
-        rest /= steps::BYTE;
     }
-    n
+    Some(n)
 }
 
-// One step of record r: a part's tree, or a record of a core kind.
+// One step of record r: a part's tree, or a record of a core kind, which takes the trees before it for its children.
 #[cycle(write_step_write_tree)]
+#[tactic(auto, unfolding(crate::specs::Steps::step_from, crate::specs::Steps::step_size))]
 fn write_step(
     records: &[u8],
     r: usize,
-    step: u8,
+    step: Step,
     under: usize,
     buffer: &mut [u8; layout::MOST_BYTES],
     n: usize,
-) -> usize
-    requires { Expandable records.now r × (fits (kind_at records.now r) step ≡ true) × (under ≤ many) × (n ≤ many) }
-    ensures { Wrote (step_bytes records.now r step under n) n (step_count records.now r step) buffer.old result buffer.new }
+) -> Option<usize>
+    requires { Expandable records.now r × (fits (kind_at records.now r) (step_meant step) ≡ true) × (under ≤ most_records) × (n ≤ most_records) }
+    ensures { Wrote (step_bytes records.now r (step_meant step) under n) n (step_count records.now r (step_meant step)) buffer.old result buffer.new }
 {
-    if steps::PART_A <= step {
-        return write_tree(records, steps::part_of(records, r, step), buffer, n);
+    match step {
+        Step::PartA => write_tree(records, layout::field_a(records, r), buffer, n),
+        Step::PartB => write_tree(records, layout::field_b(records, r), buffer, n),
+        Step::Atom => write_record(buffer, n, Core::Atom, layout::field_a(records, r), 0),
+        Step::Leaf(kind) => write_record(buffer, n, kind, 0, 0),
+        Step::One(kind) => write_record(buffer, n, kind, n.saturating_sub(1), 0),
+        Step::Two(kind) => write_record(
+            buffer,
+            n,
+            kind,
+            under.saturating_sub(1),
+            n.saturating_sub(1),
+        ),
     }
+}
+
+// One record as number n, unless the buffer is full.
+fn write_record(
+    buffer: &mut [u8; layout::MOST_BYTES],
+    n: usize,
+    kind: Core,
+    a: usize,
+    b: usize,
+) -> Option<usize>
+    requires { (a < 65_536) × (b < 65_536) }
+    ensures { Wrote (record_bytes (core_meant kind) a b) n 1 buffer.old result buffer.new }
+{
     if layout::MOST_RECORDS <= n {
-        return MANY;
+        return None;
     }
-    layout::put_record(
-        buffer,
-        n,
-        steps::own_kind(step),
-        steps::own_a(step, layout::field_a(records, r), under, n),
-        steps::own_b(step, n),
-    );
-    n + 1
+    layout::put_record(buffer, n, kind.into(), a, b);
+    Some(n + 1)
 }

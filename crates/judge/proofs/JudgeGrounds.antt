@@ -1,17 +1,18 @@
 -- The grounds of judging. After sizes that fit stand the grounds of the rules, and after those the cells'; and where no
 -- ground applies, every rule is in form and each instant has a cell for each column.
-use Prim.Native.Nat.{ℕ}
+use Prim.Native.Nat.{ℕ, ◌*◌, ◌<◌, ◌≤◌}
 use mathlib.Core.Path.{◌≡◌, refl, sym, ◌∙◌}
 use mathlib.Core.Bool.{true, false}
 use mathlib.Core.List.{List, [], ◌∷◌, ◌++◌}
 use native.Mathlib.Omega.{arith}
+use lib.ListN.{length, get_or}
+use Rattle.meaning.specs.Rule.{rule_at}
 use Rattle.meaning.specs.Run.{each}
 use Rattle.meaning.specs.Judge.{rule_count}
-use Rattle.meaning.specs.Refusal.{Ground, first_of, ground8_cells, ground13_length, ground13, grounds9, judge_grounds, most_columns}
+use Rattle.meaning.specs.Refusal.{Ground, first_of, ground8_cells, ground13_length, ground13, grounds9, judge_grounds, bad_rule, most_columns}
 use Rattle.meaning.proofs.First.{Numbered, numbered_append, numbered_each, none_clear, clear_append, clear_each, clear_skip}
 use Rattle.meaning.proofs.First.{found_stop, stop, pass}
 use Rattle.trace.proofs.Fitting.{size_fits, cells_numbered, cells_low}
-use Rattle.judge.specs.Filled.{Filled}
 
 module _ (ws : List ℕ) (W L : ℕ) (cells : List ℕ) where
   abbrev form_grounds : List Ground
@@ -28,10 +29,16 @@ module _ (ws : List ℕ) (W L : ℕ) (cells : List ℕ) where
   unfolding judge_grounds ground8_cells
   all_numbered = (omega arith, numbered_append form_grounds (grounds9 cells) forms_numbered (cells_numbered cells))
 
-  -- What no ground shuts out.
-  pub filled : all ≡ 0 → Filled ws W L cells
+  -- What no ground shuts out: rules in form, and a filled trace.
+  pub record Accepted : Type 0 where
+    pub forms : (i : ℕ) → i < rule_count ws → bad_rule W (rule_at ws i) ≡ false
+    pub size : length cells ≡ W * L
+    pub some : 0 < L
+    pub low : (i : ℕ) → get_or cells i 0 ≤ 2
+
+  pub accepted : all ≡ 0 → Accepted
   unfolding judge_grounds ground13
-  filled e =
+  accepted e =
       let (size-right, rest) = none_clear _ all_numbered e in
       let (forms, cells_clear) = (clear_append form_grounds (grounds9 cells)).0 rest in
       let fits = size_fits most_columns W L cells size-right in

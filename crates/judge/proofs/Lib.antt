@@ -1,5 +1,5 @@
 -- What the proofs of several functions cite.
+pub mod Answered
 pub mod Words
 pub mod PlaceStretch
-pub mod Scanning
 pub mod JudgeGrounds

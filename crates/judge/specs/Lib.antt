@@ -1,1 +1,3 @@
-pub mod Filled
+pub mod Read
+pub mod Form
+pub mod Found

@@ -1,64 +1,61 @@
 // The form of rules: refusal 13.
-ghost use Rattle.std.specs.Prelude.{◌≡◌, [], ◌∷◌, ◌≤◌};
+ghost use Rattle.std.specs.Prelude.{◌≡◌, [], ◌∷◌};
 ghost use Rattle.meaning.specs.Run.{each};
 ghost use Rattle.meaning.specs.Judge.{rule_count};
-ghost use Rattle.judge.specs.Filled.{six};
-ghost use Rattle.meaning.specs.Refusal.{first_of, ground13_length, ground13, bad_literal, bad_rule, most_columns};
+ghost use Rattle.meaning.specs.Refusal.{first_of, ground13_length, ground13, bad_literal, bad_rule};
+ghost use Rattle.refusals.specs.Refused.{refused};
+ghost use Rattle.judge.specs.Read.{place_meant, rule_meant};
 
+use crate::literal::Literal;
+use crate::place::Place;
+use crate::rule;
 use crate::rule::Rule;
-use crate::{literal, rule};
-use rules::{FIRST_COLUMN, LAST, LATER, MOST_RULES, RULE_SIZE};
+use refusals::Refusal;
+use rules::{FIRST_COLUMN, MOST_RULES, RULE_SIZE};
 
 // The first of the words' length and the rules' forms.
 #[tactic(auto, unfolding(meaning::specs::Refusal::of_first, meaning::specs::Refusal::ground13_length))]
-pub fn rules_refusal(rules: &[u16], width: usize) -> u8
-    requires { width ≤ most_columns }
-    ensures { result ≡ first_of (ground13_length rules.now ∷ each (rule_count rules.now) (λ i. ground13 rules.now width i ∷ [])) }
+pub fn rules_refusal(rules: &[u16], width: usize) -> Result<(), Refusal>
+    ensures { refused result ≡ first_of (ground13_length rules.now ∷ each (rule_count rules.now) (λ i. ground13 rules.now width i ∷ [])) }
 {
-    if rules.len() % RULE_SIZE != 0 {
-        return refusals::WRONG_RULES;
-    }
-    if RULE_SIZE * MOST_RULES < rules.len() {
-        return refusals::WRONG_RULES;
+    if rules.len() % RULE_SIZE != 0 || RULE_SIZE * MOST_RULES < rules.len() {
+        return Err(Refusal::WrongRules);
     }
     each_refusal(rules, width)
 }
 
-fn each_refusal(rules: &[u16], width: usize) -> u8
-    requires { width ≤ most_columns }
-    ensures { result ≡ first_of (each (rule_count rules.now) (λ i. ground13 rules.now width i ∷ [])) }
+#[tactic(auto, using(meaning::proofs::First::scan_none, meaning::proofs::First::scan_more, meaning::proofs::First::scan_found, meaning::proofs::First::scan_done, crate::proofs::Answered::passed_on, crate::proofs::Words::bad_place), unfolding(meaning::specs::Refusal::of_first, meaning::specs::Refusal::ground13))]
+fn each_refusal(rules: &[u16], width: usize) -> Result<(), Refusal>
+    ensures { refused result ≡ first_of (each (rule_count rules.now) (λ i. ground13 rules.now width i ∷ [])) }
 {
-    let n = rules.len() / RULE_SIZE;
-    let mut i: usize = 0;
-    while i < n {
-        if is_bad(rule::rule_at(rules, i), width) {
-            return refusals::WRONG_RULES;
+    for i in 0..rules.len() / RULE_SIZE {
+        let rule = rule::rule_at(rules, i)?;
+        if is_bad(rule, width) {
+            return Err(Refusal::WrongRules);
         }
-        i += 1;
     }
-    refusals::ACCEPTED
+    Ok(())
 }
 
-// A place over 3, or a bad literal.
+// Whether some literal is bad.
 #[tactic(auto, unfolding(meaning::specs::Refusal::bad_rule))]
 fn is_bad(rule: Rule, width: usize) -> bool
-    requires { width ≤ most_columns }
-    ensures { result ≡ bad_rule width (six rule.place rule.body1 rule.body2 rule.head1 rule.head2 rule.head3) }
+    ensures { result ≡ bad_rule width (rule_meant rule) }
 {
-    LAST < rule.place
-        || is_bad_literal(width, rule.place, rule.body1)
-        || is_bad_literal(width, rule.place, rule.body2)
-        || is_bad_literal(width, rule.place, rule.head1)
-        || is_bad_literal(width, rule.place, rule.head2)
-        || is_bad_literal(width, rule.place, rule.head3)
+    rule.body
+        .iter()
+        .any(|&literal| is_bad_literal(width, rule.place, literal))
+        || rule
+            .head
+            .iter()
+            .any(|&literal| is_bad_literal(width, rule.place, literal))
 }
 
 // A symbol that is no column, or the previous instant where there may be none.
 #[tactic(auto, unfolding(meaning::specs::Refusal::bad_literal))]
-fn is_bad_literal(width: usize, place: u16, word: u16) -> bool
-    requires { width ≤ most_columns }
-    ensures { result ≡ bad_literal width place word }
+fn is_bad_literal(width: usize, place: Place, literal: Literal) -> bool
+    ensures { result ≡ bad_literal width (place_meant place) literal.0 }
 {
-    FIRST_COLUMN as usize + width <= literal::symbol(word) as usize
-        || literal::is_previous(word) && place != LATER
+    usize::from(FIRST_COLUMN).saturating_add(width) <= usize::from(literal.symbol())
+        || literal.is_previous() && !matches!(place, Place::Later)
 }

@@ -1,2 +1,3 @@
 -- The proof that no two outcomes fit.
+pub mod Meant
 pub mod OneOutcome

@@ -12,7 +12,12 @@ use Rattle.std.specs.Prelude.{ℕ, ◌<◌, ◌≡◌, List}
 use contract.Lifetimes.{Lfts}
 use denote.Triple.Clauses.{Lasts, at_exit}
 use borrow.Fn.Kinds.{ParamKind, ResultKind, Dens, Out, res_t, ended_of}
+use denote.RattleType.{RattleType}
+use denote.Param.Laws.{Laws, IsCopy}
+use mir.Syntax.{Dict}
+use Rattle.std.specs.declared.clone.Clone.{Ghosts}
 use Rattle.three.proofs as three
+use Rattle.refusals.proofs as refusals
 use Rattle.records.proofs.layout as layout
 use Rattle.shapes.proofs as shapes
 use Rattle.copying.proofs as copying
@@ -58,15 +63,18 @@ module _ {n : ℕ} (ps : List (ParamKind n)) (r : ResultKind n) where
   OneSquare Post L square = (κs : Lfts n) (a : Dens κs ps) (o u : Outcome κs a) → Fits Post κs a o → Fits Post κs a u
       → (k j : ℕ) → k < L κs a → j < L κs a → at (square κs a o) k j ≡ at (square κs a u) k j
 
-pub record OneOutcome : Type 0 where
+pub record OneOutcome : Type 2 where
   -- three
   pub lesser : OneFits three.lesser.Kinds.ps three.lesser.Kinds.r three.lesser.Reads.Post
   pub greater : OneFits three.greater.Kinds.ps three.greater.Kinds.r three.greater.Reads.Post
   pub imp : OneFits three.imp.Kinds.ps three.imp.Kinds.r three.imp.Reads.Post
   pub negation : OneFits three.negation.Kinds.ps three.negation.Kinds.r three.negation.Reads.Post
+  -- refusals
+  pub number : OneFits refusals.number.Kinds.ps refusals.number.Kinds.r refusals.number.Reads.Post
   -- records
   pub record_count : OneFits layout.record_count.Kinds.ps layout.record_count.Kinds.r layout.record_count.Reads.Post
   pub kind_at : OneFits layout.kind_at.Kinds.ps layout.kind_at.Kinds.r layout.kind_at.Reads.Post
+  pub kind_of : OneFits layout.kind_of.Kinds.ps layout.kind_of.Kinds.r layout.kind_of.Reads.Post
   pub field_a : OneFits layout.field_a.Kinds.ps layout.field_a.Kinds.r layout.field_a.Reads.Post
   pub field_b : OneFits layout.field_b.Kinds.ps layout.field_b.Kinds.r layout.field_b.Reads.Post
   pub zero_at : OneFits layout.zero_at.Kinds.ps layout.zero_at.Kinds.r layout.zero_at.Reads.Post
@@ -78,6 +86,8 @@ pub record OneOutcome : Type 0 where
   pub takes : OneFits shapes.takes.Kinds.ps shapes.takes.Kinds.r shapes.takes.Reads.Post
   -- copying
   pub copy : OneFits copying.copy.Kinds.ps copying.copy.Kinds.r copying.copy.Reads.Post
+  pub append : (T : RattleType) (laws : Laws T) (copies : IsCopy T) (clone : Ghosts T.Denot) (code : Dict)
+      → OneFits (copying.append.Kinds.ps T laws copies) (copying.append.Kinds.r T laws copies) (copying.append.Reads.Post T laws copies clone code)
   -- checks
   pub formula_refusal : OneFits refusal.formula_refusal.Kinds.ps refusal.formula_refusal.Kinds.r refusal.formula_refusal.Reads.Post
   pub check : OneFits checks.check.Kinds.ps checks.check.Kinds.r checks.check.Reads.Post
@@ -85,8 +95,8 @@ pub record OneOutcome : Type 0 where
   pub stars_refusal : OneFits stars.stars_refusal.Kinds.ps stars.stars_refusal.Kinds.r stars.stars_refusal.Reads.Post
   -- contexts
   pub find_contexts : OneFits contexts.find_contexts.Kinds.ps contexts.find_contexts.Kinds.r contexts.find_contexts.Reads.Post
-  pub mode : OneFits contexts.mode.Kinds.ps contexts.mode.Kinds.r contexts.mode.Reads.Post
-  pub continuation : OneFits contexts.continuation.Kinds.ps contexts.continuation.Kinds.r contexts.continuation.Reads.Post
+  pub mode : OneFits contexts.Context.mode.Kinds.ps contexts.Context.mode.Kinds.r contexts.Context.mode.Reads.Post
+  pub continuation : OneFits contexts.Context.continuation.Kinds.ps contexts.Context.continuation.Kinds.r contexts.Context.continuation.Reads.Post
   -- rulings
   pub rows_of : OneFits rulings.rows_of.Kinds.ps rulings.rows_of.Kinds.r rulings.rows_of.Reads.Post
   pub row_count : OneFits rulings.row_count.Kinds.ps rulings.row_count.Kinds.r rulings.row_count.Reads.Post
@@ -98,6 +108,8 @@ pub record OneOutcome : Type 0 where
   pub wrong_size : OneFits trace.wrong_size.Kinds.ps trace.wrong_size.Kinds.r trace.wrong_size.Reads.Post
   pub cells_refusal : OneFits trace.cells_refusal.Kinds.ps trace.cells_refusal.Kinds.r trace.cells_refusal.Reads.Post
   -- rows
+  pub instants_new : OneFits rows.Instants.new.Kinds.ps rows.Instants.new.Kinds.r rows.Instants.new.Reads.Post
+  pub instants_number : OneFits rows.Instants.number.Kinds.ps rows.Instants.number.Kinds.r rows.Instants.number.Reads.Post
   pub part : OneFits rows.part.Kinds.ps rows.part.Kinds.r rows.part.Reads.Post
   pub row_of : OneFits rows.row_of.Kinds.ps rows.row_of.Kinds.r rows.row_of.Reads.Post
   pub put_row : OneFits rows.put_row.Kinds.ps rows.put_row.Kinds.r rows.put_row.Reads.Post

@@ -1,47 +1,45 @@
 -- What a reading that succeeds has read, by the first byte b: its parts, and how its records are laid out behind theirs.
 use Prim.Native.Char.{code}
-use Prim.Native.Nat.{ℕ, zero, suc, pred, ◌+◌, ◌<◌}
+use Prim.Native.Nat.{ℕ, zero, suc, pred, ◌+◌, ◌<◌, ◌≤◌}
 use mathlib.Core.Path.{◌≡◌, refl, sym, ap, ◌∙◌}
 use mathlib.Core.Bool.{Bool, true, false, cond}
 use mathlib.Core.List.{List, [], ◌∷◌, ◌++◌}
 use mathlib.Core.Option.{Option, none, some}
 use mathlib.Core.Logic.{◌⊎◌, ⊎_elim, inl, inr}
 use native.Mathlib.Nat.{add-zero}
-use native.Mathlib.Numerals.{add-one}
 use native.Mathlib.Omega.{arith}
 use lib.Dec.{eqb}
-use lib.ListN.{length, get_or, drop, length-drop}
-use lib.Seq.{drop-cons, get_or-drop}
+use lib.ListN.{length, get_or, drop, length-drop, length-append}
+use lib.Seq.{drop-drop, drop_at, get_or-drop}
 use borrow.Author.Tests.{eqb-true, eqb-false}
 use Rattle.meaning.specs.Record.{ahead, bytes_of, number_of, diamond, box, constant, atom, modal, move, test, choice, sequence, star}
 use Rattle.meaning.specs.Formula.{Form, Path}
 use Rattle.meaning.specs.Tree.{form_size, form_from, path_size, path_from}
 use Rattle.meaning.specs.Text.{then, else, after, sign, closing, ascii, read_atom, read_number, read_mode, read_join, read_form, read_path}
 use Rattle.meaning.specs.Text.{false_sign, true_sign, step_sign, diamond_sign, box_sign, choice_sign, sequence_sign}
-use Rattle.parsing.specs.Places.{after_hash, text_at, rest, value_in}
+use Rattle.parsing.specs.Places.{after_hash, Left, rest}
+use Rattle.parsing.proofs.Numbers.{value_in}
 use Rattle.parsing.specs.Writing.{Sorted, forms, paths}
 use Rattle.meaning.proofs.Spelling.{then_some, else_some, after_some}
-use Rattle.parsing.proofs.Places.{no_read, both, here, place_of, else_none}
+use Rattle.parsing.proofs.Places.{no_read, both, else_none}
+use Rattle.records.specs.declared.kind.Kind.{Kind}
+use Rattle.records.specs.Kinds.{kind_meant}
 use Rattle.parsing.proofs.Heads.{paired, no_form, no_path}
 
 -- ---- bytes at a place
 module _ (t : List ℕ) (at : ℕ) where
-  pub byte_of : (s : List ℕ) → text_at t at ≡ some s → (i : ℕ) → get_or t (at + i) 0 ≡ get_or s i 0
-  byte_of s h i = rw (place_of t at s h).1 (sym (get_or-drop at t i 0))
+  pub byte_of : (s : List ℕ) → Left t at s → (i : ℕ) → get_or t (at + i) 0 ≡ get_or s i 0
+  byte_of s h i = rw h.is (sym (get_or-drop at t i 0))
 
-  pub next : (b : ℕ) (s : List ℕ) → text_at t at ≡ some (b ∷ s) → text_at t (at + 1) ≡ some s
-  next b s h =
-      let (l, e) = place_of t at (b ∷ s) h in
-      let i : at < length t = omega (arith, ap length e, length-drop at t) in
-      let f : b ∷ s ≡ get_or t at 0 ∷ drop (at + 1) t = e ∙ rw (add-one, drop-cons t at 0 i) in
-      here t (at + 1) (omega arith) ∙ cc
+  pub next : (b : ℕ) (s : List ℕ) → Left t at (b ∷ s) → Left t (at + 1) s
+  next b s h = record { within = omega (arith, ap length h.is, length-drop at t); is = ap (drop 1) h.is ∙ drop-drop 1 at t }
 
 -- What follows a sign begins as many bytes later.
-pub behind_sign : (t x u : List ℕ) (at : ℕ) → text_at t at ≡ some (x ++ u) → text_at t (at + length x) ≡ some u
-behind_sign t [] u at h = rw add-zero h
-behind_sign t (b ∷ x) u at h =
-    let same : at + suc (length x) ≡ at + 1 + length x = omega arith in
-    rw same (behind_sign t x u (at + 1) (next t at b (x ++ u) h))
+pub behind_sign : (t x u : List ℕ) (at : ℕ) → Left t at (x ++ u) → Left t (at + length x) u
+behind_sign t x u at h = record {
+  within = omega (arith, h.within, ap length h.is, length-drop at t, length-append x u);
+  is = sym (drop_at x u (length x) refl) ∙ ap (drop (length x)) h.is ∙ drop-drop (length x) at t;
+}
 
 -- ---- no part: g reads what stands behind the first byte; one part; two parts in brackets, with a sign between them that says the kind
 module _ {C : Type 0} (W : Sorted C) where
@@ -103,7 +101,7 @@ either_signed c d a b s x u h =
 -- ---- signs passed over
 -- Where a sign that j reads stands at a place, it has `size` bytes.
 abbrev pub Passes : {J : Type 0} → (List ℕ → Option (J × List ℕ)) → ℕ → Type 0
-Passes {J} j size = (t : List ℕ) (at : ℕ) (v w : List ℕ) (o : J) → text_at t at ≡ some v → j v ≡ some (o, w) → text_at t (at + size) ≡ some w
+Passes {J} j size = (t : List ℕ) (at : ℕ) (v w : List ℕ) (o : J) → Left t at v → j v ≡ some (o, w) → Left t (at + size) w
 
 either_passed : {C : Type 0} (c d : C) (a b : List ℕ) → length b ≡ length a → Passes (λ v. else (sign c a v) (sign d b v)) (length a)
 either_passed c d a b same t at v w o h reads = ⊎_elim
@@ -119,7 +117,7 @@ pub join_passed : Passes read_join (length choice_sign)
 unfolding read_join
 join_passed = either_passed (λ p q. Path.choice p q) (λ p q. Path.sequence p q) choice_sign sequence_sign refl
 
-pub step_passed : (t : List ℕ) (at : ℕ) (s u : List ℕ) → text_at t (at + 1) ≡ some s → after (ascii "t") s ≡ some u → text_at t (at + length step_sign) ≡ some u
+pub step_passed : (t : List ℕ) (at : ℕ) (s u : List ℕ) → Left t (at + 1) s → after (ascii "t") s ≡ some u → Left t (at + length step_sign) u
 step_passed t at s u h reads =
     let same : at + 1 + 1 ≡ at + length step_sign = omega arith in
     rw same at (behind_sign t (ascii "t") u (at + 1) (rw (after_some (ascii "t") s u reads) at h))
@@ -153,6 +151,24 @@ two_parts {C = C} W R j S k kind node m s x u h =
       laid = λ n. ap (λ (c : C). W.bytes c n) same ∙ laid n;
     }
 
+-- The number of the kind that a byte chooses of two.
+pub chosen : {k : Kind} (x y : Kind) {b : ℕ} (sign : ℕ) {a : ℕ} → k ≡ cond (eqb b sign) x y → b ≡ a
+    → number_of (kind_meant k) ≡ cond (eqb a sign) (number_of (kind_meant x)) (number_of (kind_meant y))
+chosen x y {b} sign e same = rw (e, ← same) (go (eqb b sign))
+  where
+    go : (c : Bool) → number_of (kind_meant (cond c x y)) ≡ cond c (number_of (kind_meant x)) (number_of (kind_meant y))
+    go true = refl
+    go false = refl
+
+-- Nothing is read at the end of a text.
+pub form_inside : (m : ℕ) (s u : List ℕ) (x : Form) → read_form m s ≡ some (x, u) → 0 < length s
+form_inside m [] u x h = no_read (sym (no_form m [] (λ e. omega arith) (λ e. omega arith) (λ e. omega arith)) ∙ h)
+form_inside m (c ∷ s) u x h = omega arith
+
+pub path_inside : (m : ℕ) (s u : List ℕ) (x : Path) → read_path m s ≡ some (x, u) → 0 < length s
+path_inside m [] u x h = no_read (sym (no_path m [] (λ e. omega arith) (λ e. omega arith) (λ e. omega arith) (λ e. omega arith)) ∙ h)
+path_inside m (c ∷ s) u x h = omega arith
+
 -- ---- formulas
 -- Of false's sign and record, or true's: how long the one is, and the other's kind.
 abbrev pub constant_length : Bool → ℕ
@@ -174,7 +190,7 @@ abbrev pub join_kind : List ℕ → ℕ
 join_kind v = cond (eqb (get_or v 0 0) (code "+")) (number_of choice) (number_of sequence)
 
 -- What stands behind #: the first byte tells false from true.
-constant_passed : (t : List ℕ) (at : ℕ) (s u : List ℕ) → text_at t (at + 1) ≡ some s → after_hash s ≡ some u → text_at t (at + constant_length (is_false s)) ≡ some u
+constant_passed : (t : List ℕ) (at : ℕ) (s u : List ℕ) → Left t (at + 1) s → after_hash s ≡ some u → Left t (at + constant_length (is_false s)) u
 constant_passed t at s u h reads =
     let five : at + 1 + length (ascii "false") ≡ at + length false_sign = omega arith in
     let four : at + 1 + length (ascii "true") ≡ at + length true_sign = omega arith in
@@ -183,8 +199,16 @@ constant_passed t at s u h reads =
     (λ f. let e = after_some (ascii "true") s u f in rw e (rw four at (behind_sign t (ascii "true") u (at + 1) (rw e at h))))
     (else_some (after (ascii "false") s) (after (ascii "true") s) u reads)
 
-pub constant_stands : (t : List ℕ) (at : ℕ) (c : Bool) → eqb (get_or t (at + 1) 0) (code "f") ≡ c → (s u : List ℕ) → text_at t (at + 1) ≡ some s → after_hash s ≡ some u
-    → (text_at t (at + constant_length c) ≡ some u) × (constant_number c ≡ constant_kind s)
+-- And it has a first byte.
+pub constant_inside : (t : List ℕ) (at : ℕ) (s u : List ℕ) → Left t (at + 1) s → after_hash s ≡ some u → at + 1 < length t
+constant_inside t at s u h reads = let long = (constant_passed t at s u h reads).within in omega (arith, long, both_long (is_false s))
+  where
+    both_long : (c : Bool) → 2 ≤ constant_length c
+    both_long true = omega arith
+    both_long false = omega arith
+
+pub constant_stands : (t : List ℕ) (at : ℕ) (c : Bool) → eqb (get_or t (at + 1) 0) (code "f") ≡ c → (s u : List ℕ) → Left t (at + 1) s → after_hash s ≡ some u
+    → (Left t (at + constant_length c) u) × (constant_number c ≡ constant_kind s)
 constant_stands t at c e s u h reads =
     let first : get_or s 0 0 ≡ get_or t (at + 1) 0 = sym (byte_of t (at + 1) s h 0) ∙ rw add-zero in
     (rw (first, e) at (constant_passed t at s u h reads), rw (first, e))

@@ -1,18 +1,17 @@
 -- Reading by places of a text, instead of by what is left of it.
---   outside         a place beyond every text, which stands for none
---   text_at t at     what is left of t from a place on, or none
---   rest r          what a reading left
---   Ends t f at e   the reading f, begun at the place `at`, ends at the place e
---   Numbered t at e n   the same of an atom's number, which is n
---   Deep read t at e   the same at every depth that is enough
---   Stars t at e    from the place `at` on up to e stand stars, and none at e
+--   left_at t r         what is left of t from a place on, where there is one
+--   Left t at s         s is what is left of t from the place `at` on
+--   rest r              what a reading left
+--   Within t at r       the place r, where there is one, is not before the place `at` and not beyond the end of t
+--   Ends t f at r       the reading f, begun at the place `at`, ends at the place r, or nowhere
+--   Deep read t at r    the same at every depth that is enough
+--   Numbered t at r     the same of an atom's number, with its value
+--   Stars t at e        from the place `at` on up to e stand stars, and none at e
 use Prim.Native.Char.{code}
-use Rattle.std.specs.Prelude.{ℕ, ◌+◌, ◌≤◌, ◌<◌, ◌≡◌, cond, List, leb, length, get_or, drop}
+use Rattle.std.specs.Prelude.{ℕ, ◌+◌, ◌≤◌, ◌<◌, ◌≡◌, List, length, get_or, drop, Option as Perhaps, Some, None, IfSome, option_map}
 use Rattle.std.proofs.Math.Option.{Option, none, some}
-use Rattle.meaning.specs.Text.{then, else, after, ascii, read_number}
-
-abbrev pub outside : ℕ
-outside = 1_531
+use Rattle.meaning.specs.Text.{else, after, ascii, read_number}
+use Rattle.parsing.specs.declared.ends.Atom.{Atom}
 
 -- The digit 0.
 abbrev pub nought : ℕ
@@ -25,35 +24,41 @@ hash = code "#"
 abbrev pub after_hash : List ℕ → Option (List ℕ)
 after_hash u = else (after (ascii "false") u) (after (ascii "true") u)
 
-unfoldable pub text_at : List ℕ → ℕ → Option (List ℕ)
-text_at t at = cond (leb at (length t)) (some (drop at t)) none
+abbrev pub left_at : List ℕ → Perhaps ℕ → Option (List ℕ)
+left_at t None = none
+left_at t (Some e) = some (drop e t)
+
+pub record Left (t : List ℕ) (at : ℕ) (s : List ℕ) : Type 0 where
+  pub within : at ≤ length t
+  pub is : s ≡ drop at t
 
 unfoldable pub rest : {T : Type 0} → Option (T × List ℕ) → Option (List ℕ)
 rest none = none
 rest (some (x, u)) = some u
 
-pub record Ends (t : List ℕ) (f : List ℕ → Option (List ℕ)) (at e : ℕ) : Type 0 where
-  pub onward : at ≤ e
-  pub low : e ≤ outside
-  pub there : then (text_at t at) f ≡ text_at t e
+abbrev pub Within : List ℕ → ℕ → Perhaps ℕ → Type 0
+Within t at r = IfSome r (λ e. (at ≤ e) × (e ≤ length t))
 
-pub record Deep {T : Type 0} (read : ℕ → List ℕ → Option (T × List ℕ)) (t : List ℕ) (at e : ℕ) : Type 0 where
-  pub onward : at ≤ e
-  pub low : e ≤ outside
-  pub there : (n : ℕ) → length t ≤ n + at → then (text_at t at) (λ u. rest (read n u)) ≡ text_at t e
+pub record Ends (t : List ℕ) (f : List ℕ → Option (List ℕ)) (at : ℕ) (r : Perhaps ℕ) : Type 0 where
+  pub within : Within t at r
+  pub there : f (drop at t) ≡ left_at t r
 
--- The number that was read, and 0 for none.
-unfoldable pub value_in : Option (ℕ × List ℕ) → ℕ
-value_in none = 0
-value_in (some (i, u)) = i
+pub record Deep {T : Type 0} (read : ℕ → List ℕ → Option (T × List ℕ)) (t : List ℕ) (at : ℕ) (r : Perhaps ℕ) : Type 0 where
+  pub within : Within t at r
+  pub there : (n : ℕ) → length t ≤ n + at → rest (read n (drop at t)) ≡ left_at t r
 
-pub record Numbered (t : List ℕ) (at e n : ℕ) : Type 0 where
-  pub ends : Ends t (λ u. rest (read_number u)) at e
-  pub value : n ≡ value_in (then (text_at t at) read_number)
-  pub small : n < 65_536
+-- What was read of an atom, with what is left behind it.
+abbrev pub atom_read : List ℕ → Perhaps Atom → Option (ℕ × List ℕ)
+atom_read t None = none
+atom_read t (Some a) = some (a.value, drop a.end t)
+
+pub record Numbered (t : List ℕ) (at : ℕ) (r : Perhaps Atom) : Type 0 where
+  pub within : Within t at (option_map (λ (a : Atom). a.end) r)
+  pub there : read_number (drop at t) ≡ atom_read t r
+  pub small : IfSome r (λ a. a.value < 65_536)
 
 pub record Stars (t : List ℕ) (at e : ℕ) : Type 0 where
   pub onward : at ≤ e
-  pub low : e ≤ outside
+  pub low : e ≤ length t
   pub stars : (i : ℕ) → at ≤ i → i < e → get_or t i 0 ≡ code "*"
   pub over : get_or t e 0 ≡ code "*" → ⊥

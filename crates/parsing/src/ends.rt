@@ -1,82 +1,33 @@
-// Where the parts of a text end. A place beyond every text stands for none, and nothing can be read there: so no step asks whether the
-// one before it failed.
-ghost use Rattle.std.specs.Prelude.{◌≡◌, ◌∷◌, [], ◌*◌, ◌-◌, ◌<◌, ◌≤◌, length, get_or};
-ghost use Rattle.meaning.specs.Text.{most_text, after, digit, two_digits, number, read_mode, read_join, read_form, read_path};
-ghost use Rattle.parsing.specs.Places.{outside, nought, after_hash, rest, Ends, Numbered, Deep, Stars};
-
-// A place beyond every text.
-const OUTSIDE: usize = 1531;
+// Where the parts of a text end, or none where no such part stands at the place. A struct of the text and a place would be no plainer: each
+// function gives another place, or none.
+ghost use Rattle.std.specs.Prelude.{◌≡◌, ◌*◌, ◌-◌, ◌<◌, ◌≤◌, ◌==◌, length};
+ghost use Rattle.std.specs.List.{prefix_len};
+ghost use Rattle.meaning.specs.Text.{after, else, digit, two_digits, number, read_form, read_path};
+ghost use Rattle.parsing.specs.Places.{nought, Ends, Numbered, Deep, Stars};
 
 // The atoms that text may name.
 const ATOMS: usize = 32;
 
-// The byte at a place, and 0 beyond the end: so a byte above 0 is within the text.
-pub fn byte_at(text: &[u8], at: usize) -> u8
-    ensures { (result ≡ get_or text.now at 0) × (result ≤ 255 * (length text.now - at)) }
-{
-    if at < text.len() { text[at] } else { 0 }
-}
-
 // ---- signs
-// Where one byte ends, if it stands at the place.
-fn byte_end(text: &[u8], at: usize, b: u8) -> usize
-    requires { (length text.now ≤ most_text) × (at ≤ outside) }
-    ensures { Ends text.now (after (b ∷ [])) at result }
-{
-    if text.len() <= at {
-        return OUTSIDE;
-    }
-    if text[at] == b { at + 1 } else { OUTSIDE }
-}
-
-// The same of several bytes.
-fn sign_end(text: &[u8], at: usize, sign: &[u8]) -> usize
-    requires { (length text.now ≤ most_text) × (at ≤ outside) }
+// Where a sign ends, if it stands at the place. Inline, so that each sign is compared as a constant.
+#[inline(always)]
+fn sign_end(text: &[u8], at: usize, sign: &[u8]) -> Option<usize>
+    requires { at ≤ length text.now }
     ensures { Ends text.now (after sign.now) at result }
 {
-    let mut e = at;
-    let mut i: usize = 0;
-    while i < sign.len() {
-        e = byte_end(text, e, sign[i]);
-        i += 1;
+    if text[at..].starts_with(sign) {
+        Some(at + sign.len())
+    } else {
+        None
     }
-    e
 }
 
-// Of a constant without its first byte.
-fn constant_end(text: &[u8], at: usize) -> usize
-    requires { (length text.now ≤ most_text) × (at ≤ outside) }
-    ensures { Ends text.now after_hash at result }
+// Of one sign or else another.
+fn either_end(text: &[u8], at: usize, this: &[u8], other: &[u8]) -> Option<usize>
+    requires { at ≤ length text.now }
+    ensures { Ends text.now (λ u. else (after this.now u) (after other.now u)) at result }
 {
-    let e = sign_end(text, at, b"false");
-    if e <= text.len() {
-        return e;
-    }
-    sign_end(text, at, b"true")
-}
-
-// Of a diamond's or a box's sign.
-fn mode_end(text: &[u8], at: usize) -> usize
-    requires { (length text.now ≤ most_text) × (at ≤ outside) }
-    ensures { Ends text.now (λ u. rest (read_mode u)) at result }
-{
-    let e = sign_end(text, at, b".>?");
-    if e <= text.len() {
-        return e;
-    }
-    sign_end(text, at, b".>*")
-}
-
-// Of a choice's or a sequence's sign.
-fn join_end(text: &[u8], at: usize) -> usize
-    requires { (length text.now ≤ most_text) × (at ≤ outside) }
-    ensures { Ends text.now (λ u. rest (read_join u)) at result }
-{
-    let e = byte_end(text, at, b'+');
-    if e <= text.len() {
-        return e;
-    }
-    byte_end(text, at, b';')
+    sign_end(text, at, this).or_else(|| sign_end(text, at, other))
 }
 
 // ---- an atom's number
@@ -85,31 +36,22 @@ fn join_end(text: &[u8], at: usize) -> usize
 fn is_digit(b: u8) -> bool
     ensures { result ≡ digit b }
 {
-    if b < b'0' {
-        return false;
-    }
-    b <= b'9'
+    b'0' <= b && b <= b'9'
 }
 
 // Whether two bytes are the digits of a number from 10 to 31.
-#[tactic(auto, unfolding(meaning::specs::Text::two_digits))]
+#[tactic(auto, using(crate::proofs::Numbers::digit_low), unfolding(meaning::specs::Text::two_digits))]
 fn two_digits(b: u8, c: u8) -> bool
     ensures { result ≡ two_digits b c }
 {
-    if b < b'1' {
-        return false;
-    }
-    if is_digit(c) {
-        return number(b, c) < ATOMS;
-    }
-    false
+    b'1' <= b && is_digit(c) && number(b, c) < ATOMS
 }
 
 fn value(b: u8) -> usize
     requires { nought ≤ b }
     ensures { (result ≡ b - nought) × (result < 256) }
 {
-    (b - b'0') as usize
+    usize::from(b - b'0')
 }
 
 // Of two digits.
@@ -122,86 +64,82 @@ fn number(b: u8, c: u8) -> usize
 }
 
 // Where it ends, and what it is.
-#[derive(Drop)]
+#[derive(Clone, Copy)]
 pub struct Atom {
     pub end: usize,
     pub value: usize,
 }
 
 // The number that stands at a place: two digits where they are one, else one digit.
-pub fn number_at(text: &[u8], at: usize) -> Atom
-    requires { (length text.now ≤ most_text) × (at ≤ outside) }
-    ensures { Numbered text.now at result.end result.value }
+#[tactic(auto, using(crate::proofs::Numbers::digit_low, crate::proofs::Numbers::two_low))]
+pub fn number_at(text: &[u8], at: usize) -> Option<Atom>
+    requires { at ≤ length text.now }
+    ensures { Numbered text.now at result }
 {
-    let b = byte_at(text, at);
-    let c = byte_at(text, at + 1);
-    if two_digits(b, c) {
-        return Atom {
+    match &text[at..] {
+        &[b, c, ..] if two_digits(b, c) => Some(Atom {
             end: at + 2,
             value: number(b, c),
-        };
-    }
-    if is_digit(b) {
-        return Atom {
+        }),
+        &[b, ..] if is_digit(b) => Some(Atom {
             end: at + 1,
             value: value(b),
-        };
-    }
-    Atom {
-        end: OUTSIDE,
-        value: 0,
+        }),
+        _ => None,
     }
 }
 
 // ---- formulas and paths
 // Where the formula at a place ends.
 #[cycle(form_end_path_end)]
-pub fn form_end(text: &[u8], at: usize) -> usize
-    requires { (length text.now ≤ most_text) × (at ≤ outside) }
+pub fn form_end(text: &[u8], at: usize) -> Option<usize>
+    requires { at ≤ length text.now }
     ensures { Deep read_form text.now at result }
 {
-    match byte_at(text, at) {
-        b'#' => constant_end(text, at + 1),
-        b'p' => {
-            let atom = number_at(text, at + 1);
-            atom.end
+    match *text.get(at)? {
+        b'#' => either_end(text, at + 1, b"false", b"true"),
+        b'p' => Some(number_at(text, at + 1)?.end),
+        b'(' => {
+            let path = path_end(text, at + 1)?;
+            let mode = either_end(text, path, b".>?", b".>*")?;
+            let form = form_end(text, mode)?;
+            sign_end(text, form, b")")
         }
-        b'(' => byte_end(
-            text,
-            form_end(text, mode_end(text, path_end(text, at + 1))),
-            b')',
-        ),
-        _ => OUTSIDE,
+        _ => None,
     }
 }
 
 // Where the path at a place ends. Stars, of which there may be many, take no call each: the path behind them decides.
 #[cycle(form_end_path_end)]
-fn path_end(text: &[u8], at: usize) -> usize
-    requires { (length text.now ≤ most_text) × (at ≤ outside) }
+fn path_end(text: &[u8], at: usize) -> Option<usize>
+    requires { at ≤ length text.now }
     ensures { Deep read_path text.now at result }
 {
     let from = stars_end(text, at);
-    match byte_at(text, from) {
-        b'&' => byte_end(text, from + 1, b't'),
+    match *text.get(from)? {
+        b'&' => sign_end(text, from + 1, b"t"),
         b'?' => form_end(text, from + 1),
-        b'(' => byte_end(
-            text,
-            path_end(text, join_end(text, path_end(text, from + 1))),
-            b')',
-        ),
-        _ => OUTSIDE,
+        b'(' => {
+            let first = path_end(text, from + 1)?;
+            let join = either_end(text, first, b"+", b";")?;
+            let second = path_end(text, join)?;
+            sign_end(text, second, b")")
+        }
+        _ => None,
     }
 }
 
 // Where a run of stars ends.
 pub fn stars_end(text: &[u8], at: usize) -> usize
-    requires { (length text.now ≤ most_text) × (at ≤ outside) }
+    requires { at ≤ length text.now }
     ensures { Stars text.now at result }
 {
-    let mut e = at;
-    while byte_at(text, e) == b'*' {
-        e += 1;
-    }
-    e
+    at + stars(&text[at..])
+}
+
+// How many stars a text begins with.
+fn stars(text: &[u8]) -> usize
+    ensures { (result ≡ prefix_len (λ b. b == 42) text.now) × (result ≤ length text.now) }
+{
+    text.iter().take_while(|b| **b == b'*').count()
 }

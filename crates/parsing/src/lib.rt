@@ -4,26 +4,27 @@
 mod ends;
 mod write;
 
-ghost use Rattle.std.specs.Prelude.{◌≡◌, true, ◌≤◌, length};
+ghost use Rattle.std.specs.Prelude.{◌≡◌, true, ◌≤◌};
 ghost use Rattle.std.proofs.lemmas.List.Edits.{sets};
-ghost use Rattle.meaning.specs.Text.{most_text, read, is_read, form_in};
+ghost use Rattle.meaning.specs.Text.{read, is_read, form_in};
 ghost use Rattle.meaning.specs.Record.{most_records};
 ghost use Rattle.meaning.specs.Tree.{form_size, postorder};
 
 use records::layout;
 
 // Whether all of the text is a formula.
+#[tactic(auto, using(crate::proofs::Whole::formula_read))]
 pub fn is_formula(text: &[u8]) -> bool
-    requires { length text.now ≤ most_text }
     ensures { result ≡ is_read (read text.now) }
 {
-    ends::form_end(text, 0) == text.len()
+    ends::form_end(text, 0) == Some(text.len())
 }
 
 // Writes the formula's records in postorder from the buffer's start on.
 pub fn write_records(text: &[u8], buffer: &mut [u8; layout::MOST_BYTES])
-    requires { (length text.now ≤ most_text) × (is_read (read text.now) ≡ true) × (form_size (form_in text.now) ≤ most_records) }
+    requires { (is_read (read text.now) ≡ true) × (form_size (form_in text.now) ≤ most_records) }
     ensures { buffer.new ≡ sets buffer.old 0 (postorder (form_in text.now)) }
 {
-    write::write_form(text, 0, buffer, 0);
+    let mut writer = write::Writer { buffer, next: 0 };
+    write::write_form(text, 0, &mut writer);
 }

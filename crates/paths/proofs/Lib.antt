@@ -1,3 +1,2 @@
 -- What the proofs of several functions cite.
 pub mod Moving
-pub mod MayStand

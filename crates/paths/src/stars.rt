@@ -5,82 +5,107 @@ ghost use Rattle.meaning.specs.Record.{count};
 ghost use Rattle.meaning.specs.Formula.{may_stand};
 ghost use Rattle.meaning.specs.Tree.{path_at};
 ghost use Rattle.meaning.specs.Refusal.{first_of, ground11, ground12, star_grounds};
-ghost use Rattle.paths.specs.Asking.{Formed, Scanned, MovesAt};
+ghost use Rattle.refusals.specs.Refused.{refused};
+ghost use Rattle.paths.specs.Asking.{Formed, Scanned, MovesAt, joined};
 
-use records::{kind, layout};
+use records::kind::{Kind, Way};
+use records::layout;
+use refusals::Refusal;
 
-// The moves that a path has are two bits: this one if it has steps,
-const AHEAD: u8 = 1;
+// The ways that a path's moves go. As two bools they would take two bytes, and an array of those is slower to clear for each small formula.
+#[derive(Clone, Copy, Debug, PartialEq, Eq)]
+enum Moves {
+    Nowhere,
+    Ahead,
+    Back,
+    BothWays,
+}
 
-// and this one if it has back steps.
-const BACK: u8 = 2;
-
-// A path that turns has both.
-const TURNS: u8 = AHEAD | BACK;
+impl Moves {
+    // Those of a path made of two.
+    fn join(self, other: Moves) -> Moves
+        ensures { result ≡ joined self other }
+    {
+        match (self, other) {
+            (Moves::Nowhere, _) => other,
+            (_, Moves::Nowhere) => self,
+            (Moves::Ahead, Moves::Ahead) | (Moves::Back, Moves::Back) => self,
+            _ => Moves::BothWays,
+        }
+    }
+}
 
 // Whether path p may stand still.
+#[tactic(auto, using(crate::proofs::Moving::path_stands, crate::proofs::Moving::first_part, crate::proofs::Moving::second_part), unfolding(meaning::specs::Record::columns_of))]
 fn may_stand(records: &[u8], p: usize) -> bool
     requires { Formed records.now × (p < count records.now) }
     ensures { result ≡ may_stand (path_at records.now p) }
 {
-    match layout::kind_at(records, p) {
-        kind::TEST | kind::STAR => true,
-        kind::CHOICE => may_stand(records, layout::field_a(records, p))
-            || may_stand(records, layout::field_b(records, p)),
-        kind::SEQUENCE => may_stand(records, layout::field_a(records, p))
-            && may_stand(records, layout::field_b(records, p)),
+    match layout::kind_of(records, p) {
+        Kind::Test | Kind::Star => true,
+        Kind::Choice => {
+            may_stand(records, layout::field_a(records, p))
+                || may_stand(records, layout::field_b(records, p))
+        }
+        Kind::Sequence => {
+            may_stand(records, layout::field_a(records, p))
+                && may_stand(records, layout::field_b(records, p))
+        }
         _ => false,
     }
 }
 
 // The moves of record r, if it is a path; what a test's formula has does not count. `moves` has those of the paths before it.
-fn moves_of(records: &[u8], moves: &[u8; layout::MOST_RECORDS], r: usize) -> u8
+#[tactic(auto, using(crate::proofs::Moving::path_moves, crate::proofs::Moving::known_first, crate::proofs::Moving::known_second), unfolding(meaning::specs::Record::columns_of, meaning::specs::Formula::same_way))]
+fn moves_of(records: &[u8], moves: &[Moves; layout::MOST_RECORDS], r: usize) -> Moves
     requires { Scanned records.now r moves.now }
     ensures { MovesAt records.now r result }
 {
-    match layout::kind_at(records, r) {
-        kind::STEP => AHEAD,
-        kind::BACK => BACK,
-        kind::CHOICE | kind::SEQUENCE => moves[layout::field_a(records, r)]
-            | moves[layout::field_b(records, r)],
-        kind::STAR => moves[layout::field_a(records, r)],
-        _ => 0,
+    match layout::kind_of(records, r) {
+        Kind::Move(Way::Ahead) => Moves::Ahead,
+        Kind::Move(Way::Back) => Moves::Back,
+        Kind::Choice | Kind::Sequence => {
+            let first = moves[layout::field_a(records, r)];
+            first.join(moves[layout::field_b(records, r)])
+        }
+        Kind::Star => moves[layout::field_a(records, r)],
+        _ => Moves::Nowhere,
     }
 }
 
 // 12, then 11, of record r.
-fn star_refusal(records: &[u8], moves: &[u8; layout::MOST_RECORDS], r: usize) -> u8
+#[tactic(auto, using(crate::proofs::Moving::star_ground, crate::proofs::Moving::known_first, crate::proofs::Moving::first_part), unfolding(meaning::specs::Record::columns_of))]
+fn star_refusal(
+    records: &[u8],
+    moves: &[Moves; layout::MOST_RECORDS],
+    r: usize,
+) -> Result<(), Refusal>
     requires { Scanned records.now r moves.now }
-    ensures { result ≡ first_of (ground12 records.now r ∷ ground11 records.now r ∷ []) }
+    ensures { refused result ≡ first_of (ground12 records.now r ∷ ground11 records.now r ∷ []) }
 {
-    if layout::kind_at(records, r) != kind::STAR {
-        return refusals::ACCEPTED;
-    }
+    let Kind::Star = layout::kind_of(records, r) else {
+        return Ok(());
+    };
     let body = layout::field_a(records, r);
-    if moves[body] == TURNS {
-        return refusals::STAR_TURNS;
+    if let Moves::BothWays = moves[body] {
+        return Err(Refusal::StarTurns);
     }
     if may_stand(records, body) {
-        return refusals::STAR_STANDS;
+        return Err(Refusal::StarStands);
     }
-    refusals::ACCEPTED
+    Ok(())
 }
 
-// The first refusal of a star, stars from the first.
-pub fn stars_refusal(records: &[u8]) -> u8
+// The first refusal of a star, stars from the first. A struct of records that are known to be formed would be no plainer than `Formed` in the
+// contracts: the public functions are given bytes, so each would build it and show its fact.
+pub fn stars_refusal(records: &[u8]) -> Result<(), Refusal>
     requires { Formed records.now }
-    ensures { result ≡ first_of (star_grounds records.now) }
+    ensures { refused result ≡ first_of (star_grounds records.now) }
 {
-    let n = layout::record_count(records);
-    let mut moves = [0u8; layout::MOST_RECORDS];
-    let mut r: usize = 0;
-    while r < n {
-        let x = star_refusal(records, &moves, r);
-        if x != refusals::ACCEPTED {
-            return x;
-        }
+    let mut moves = [Moves::Nowhere; layout::MOST_RECORDS];
+    for r in 0..layout::record_count(records) {
+        star_refusal(records, &moves, r)?;
         moves[r] = moves_of(records, &moves, r);
-        r += 1;
     }
-    refusals::ACCEPTED
+    Ok(())
 }

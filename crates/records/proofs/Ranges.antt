@@ -39,20 +39,3 @@ module _ {B : Type 0} (f : Kind → B) where
   pub onward : (start size : ℕ) → drop start (map f kinds) ≡ replicate size (f unknown)
       → (k : ℕ) → start ≤ k → f unknown ≡ f (kind_of k)
   onward start size e k h = sym (again size (k - start) (f unknown)) ∙ rw (← e) (from_on start k h)
-
--- ---- what the default of a `match` knows
--- k is none of a stretch of numbers, nor of those before, A.
-unfoldable pub Others : Type 0 → ℕ → ℕ → ℕ → Type 0
-Others A k start zero = A
-Others A k start (suc size) = Others A k start size × (k ≡ start + size → ⊥)
-
--- So from the stretch on it is after it.
-pub others_after : (A : Type 0) (k start size : ℕ) → Others A k start size → start ≤ k → start + size ≤ k
-unfolding Others
-others_after A k start zero none h = omega arith
-others_after A k start (suc size) (none, other) h = omega (arith, others_after A k start size none h)
-
-pub others_before : (A : Type 0) (k start size : ℕ) → Others A k start size → A
-unfolding Others
-others_before A k start zero none = none
-others_before A k start (suc size) (none, other) = others_before A k start size none

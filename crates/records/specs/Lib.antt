@@ -1,1 +1,1 @@
-pub mod Code
+pub mod Kinds

@@ -1,7 +1,10 @@
 // Where a record's parts stand among the bytes, reading and writing: nothing else knows the layout.
 ghost use Rattle.std.specs.Prelude.{◌≡◌, ◌+◌, ◌*◌, ◌<◌, length};
 ghost use Rattle.std.proofs.lemmas.List.Edits.{sets};
-ghost use Rattle.meaning.specs.Record.{record_size, most_records, bytes_of, count, two_bytes, kind_byte, zero_byte, field_a, field_b};
+ghost use Rattle.meaning.specs.Record.{record_size, most_records, bytes_of, count, two_bytes, kind_byte, zero_byte, field_a, field_b, kind_at as meant_kind_at};
+ghost use Rattle.records.specs.Kinds.{kind_meant};
+
+use crate::kind::Kind;
 
 // The bytes of one record.
 pub const RECORD_SIZE: usize = 6;
@@ -20,11 +23,21 @@ pub fn record_count(s: &[u8]) -> usize
     s.len() / RECORD_SIZE
 }
 
+// What follows asks for a record that is there. That a number is below the count is a fact of the bytes of this one call, which no type
+// carries.
 pub fn kind_at(s: &[u8], r: usize) -> u8
     requires { r < count s.now }
     ensures { result ≡ kind_byte s.now r }
 {
     s[RECORD_SIZE * r]
+}
+
+// The kind of record r: each byte has one.
+pub fn kind_of(s: &[u8], r: usize) -> Kind
+    requires { r < count s.now }
+    ensures { kind_meant result ≡ meant_kind_at s.now r }
+{
+    Kind::from(kind_at(s, r))
 }
 
 pub fn zero_at(s: &[u8], r: usize) -> u8
@@ -48,31 +61,29 @@ pub fn field_b(s: &[u8], r: usize) -> usize
     word_at(s, RECORD_SIZE * r + 4)
 }
 
-// Two bytes, low byte first.
+// Two bytes, low byte first. By the numbers, as the definition has them: `from_le_bytes` would first be proved to give these.
 fn word_at(s: &[u8], i: usize) -> usize
     requires { i + 1 < length s.now }
     ensures { result ≡ two_bytes s.now i }
 {
-    wide(s[i]) + 256 * wide(s[i + 1])
-}
-
-fn wide(x: u8) -> usize
-    ensures { (result ≡ x) × (result < 256) }
-{
-    x as usize
+    usize::from(s[i]) + 256 * usize::from(s[i + 1])
 }
 
 // ---- writing
-// Writes one record as number n, its zero byte too.
+// Writes one record as number n, its zero byte too. Every byte is written for the kind as it is given, so it is no `Kind`; the fields are
+// numbers of records and atoms, which callers have as `usize`, so a type of two bytes would be a cast at each call.
 pub fn put_record(buffer: &mut [u8; MOST_BYTES], n: usize, kind: u8, a: usize, b: usize)
     requires { (n < most_records) × (a < 65_536) × (b < 65_536) }
     ensures { buffer.new ≡ sets buffer.old (record_size * n) (bytes_of kind a b) }
 {
     let at = RECORD_SIZE * n;
-    buffer[at] = kind;
-    buffer[at + 1] = 0;
-    buffer[at + 2] = (a % 256) as u8;
-    buffer[at + 3] = (a / 256) as u8;
-    buffer[at + 4] = (b % 256) as u8;
-    buffer[at + 5] = (b / 256) as u8;
+    let record = [
+        kind,
+        0,
+        (a % 256) as u8,
+        (a / 256) as u8,
+        (b % 256) as u8,
+        (b / 256) as u8,
+    ];
+    buffer[at..at + RECORD_SIZE].copy_from_slice(&record);
 }

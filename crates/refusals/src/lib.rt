@@ -1,44 +1,77 @@
-// What services give back: the numbers of refusals, and an answer with a count.
+// Why a service refuses, and what services give back to C: a refusal's number, and an answer with a count.
 #![tactic(auto)]
 
-pub const ACCEPTED: u8 = 0;
+ghost use Rattle.std.specs.Prelude.{◌≡◌};
+ghost use Rattle.refusals.specs.Refused.{number_of, refused, counted};
 
-pub const WRONG_LENGTH: u8 = 1;
+// Each reason for which a service refuses, in the order of the specification's numbers.
+#[derive(Clone, Copy, Debug, PartialEq, Eq)]
+pub enum Refusal {
+    WrongLength = 1,
+    UnknownKind = 2,
+    NotZero = 3,
+    LateChild = 4,
+    NoSuchAtom = 5,
+    WrongSort = 6,
+    NotATree = 7,
+    WrongSize = 8,
+    WrongCell = 9,
+    NoRoom = 10,
+    StarStands = 11,
+    StarTurns = 12,
+    WrongRules = 13,
+    TooLong = 14,
+    NoSign = 18,
+    NotTheForm = 19,
+}
 
-pub const UNKNOWN_KIND: u8 = 2;
+// The specification's number, which C compares.
+impl From<Refusal> for u8 {
+    ghost use Rattle.std.specs.Prelude.{◌≡◌};
+    ghost use Rattle.refusals.specs.Refused.{number_of};
 
-pub const NOT_ZERO: u8 = 3;
+    ghost from_gives = { λ refusal number. number ≡ number_of refusal };
 
-pub const LATE_CHILD: u8 = 4;
+    fn from(refusal: Refusal) -> u8 {
+        refusal as u8
+    }
+}
 
-pub const NO_SUCH_ATOM: u8 = 5;
-
-pub const WRONG_SORT: u8 = 6;
-
-pub const NOT_A_TREE: u8 = 7;
-
-pub const WRONG_SIZE: u8 = 8;
-
-pub const WRONG_CELL: u8 = 9;
-
-pub const NO_ROOM: u8 = 10;
-
-pub const STAR_STANDS: u8 = 11;
-
-pub const STAR_TURNS: u8 = 12;
-
-pub const WRONG_RULES: u8 = 13;
-
-pub const TOO_LONG: u8 = 14;
-
-pub const NO_SIGN: u8 = 18;
-
-pub const NOT_THE_FORM: u8 = 19;
-
-// A refusal, or 0 and how many records, rules or bytes were written.
+// For C: a refusal's number, or 0 and how many records, rules or bytes were written.
 #[repr(C)]
 #[derive(Drop)]
 pub struct Counted {
     pub refusal: u8,
     pub count: u64,
+}
+
+impl From<Result<usize, Refusal>> for Counted {
+    ghost use Rattle.std.specs.Prelude.{◌≡◌};
+    ghost use Rattle.refusals.specs.Refused.{refused, counted};
+
+    ghost from_gives = { λ answer c. (c.refusal ≡ refused answer) × (c.count ≡ counted answer) };
+
+    fn from(answer: Result<usize, Refusal>) -> Counted {
+        match answer {
+            // `u64` has no `From<usize>`.
+            Ok(count) => Counted {
+                refusal: 0,
+                count: count as u64,
+            },
+            Err(refusal) => Counted {
+                refusal: refusal.into(),
+                count: 0,
+            },
+        }
+    }
+}
+
+// 0 where nothing is refused, else the refusal's number.
+pub fn number(answer: Result<(), Refusal>) -> u8
+    ensures { result ≡ refused answer }
+{
+    match answer {
+        Ok(()) => 0,
+        Err(refusal) => refusal.into(),
+    }
 }

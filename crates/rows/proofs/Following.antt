@@ -14,9 +14,6 @@ pub record Following (L : ℕ) (f : Square) (old s : List ℕ) (k : ℕ) : Type 
   pub passed : (r : ℕ) → r < k → (j : ℕ) → j < L → at s r j ≡ f r j
   pub ahead : (r : ℕ) → k ≤ r → (j : ℕ) → j < width → at s r j ≡ at old r j
 
-pub following_none : {L : ℕ} {f : Square} {s : List ℕ} → length s ≡ area → Following L f s s 0
-following_none e = record { size = e; passed = λ r h. absurd (omega arith); ahead = λ r h j l. refl }
-
 pub following_more : {L : ℕ} {f : Square} {g : ℕ → ℕ} {old s new : List ℕ} {k : ℕ} → L ≤ width → Following L f old s k
     → Rowed k g s new → ((j : ℕ) → j < L → g j ≡ f k j) → Following L f old new (k + 1)
 following_more {L} {f} {new = new} {k = k} short w r e = record {
@@ -27,6 +24,3 @@ following_more {L} {f} {new = new} {k = k} short w r e = record {
       (λ j l. r.row j (omega arith) ∙ e j l);
   ahead = λ q h j l. r.others q j (λ z. omega arith) l ∙ w.ahead q (omega arith) j l;
 }
-
-pub following_done : {L : ℕ} {f : Square} {old s : List ℕ} {k : ℕ} → Following L f old s k → L ≤ k → Holds L s f
-following_done w h = record { size = w.size; cells = λ r j p q. w.passed r (omega arith) j q }

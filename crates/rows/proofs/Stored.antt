@@ -14,9 +14,6 @@ pub record Stored (p f : ℕ → ℕ) (old s : List ℕ) (n : ℕ) : Type 0 wher
   pub on : (i : ℕ) → i < n → get_or s (p i) 0 ≡ f i
   pub off : (m : ℕ) → ((i : ℕ) → i < n → m ≡ p i → ⊥) → get_or s m 0 ≡ get_or old m 0
 
-pub stored_none : {p f : ℕ → ℕ} {s : List ℕ} → Stored p f s s 0
-stored_none = record { size = refl; on = λ i h. absurd (omega arith); off = λ m h. refl }
-
 pub stored_more : {p f : ℕ → ℕ} {old s : List ℕ} {n q v : ℕ} → Stored p f old s n → q ≡ p n → q < length old → v ≡ f n
     → ((i : ℕ) → i < n → p i < p n) → Stored p f old (set s q v) (n + 1)
 stored_more {p} {f} {old} {s} {n} {q} {v} w here l e rise =

@@ -2,70 +2,90 @@
 #![tactic(auto)]
 
 ghost use Rattle.std.specs.Prelude.{◌≡◌};
-ghost use Rattle.meaning.specs.Record.{kind_of, sort_of, use_a, use_b, known};
-ghost use Rattle.shapes.specs.Uses.{sort_code, use_code, language_of};
+ghost use Rattle.meaning.specs.Record.{sort_of, use_a, use_b, known};
+ghost use Rattle.records.specs.Kinds.{kind_meant};
+ghost use Rattle.shapes.specs.Uses.{sort_meant, use_meant, language_meant};
 
-use records::kind;
+use records::kind::{Kind, Shorthand};
 
-// What a field holds. The last two number the sorts of records too.
-pub const UNUSED: u8 = 0;
+// Whether a record is a formula or a path.
+#[derive(Clone, Copy, Debug, PartialEq, Eq)]
+pub enum Sort {
+    Formula,
+    Path,
+}
 
-pub const ATOM_NUMBER: u8 = 1;
+// What a field holds: nothing, an atom's number, or a record of a sort.
+#[derive(Clone, Copy, Debug, PartialEq, Eq)]
+pub enum Use {
+    Unused,
+    AtomNumber,
+    Child(Sort),
+}
 
-pub const FORMULA: u8 = 2;
+// The languages of formulas: core kinds alone, or shorthands too.
+#[derive(Clone, Copy, Debug, PartialEq, Eq)]
+pub enum Language {
+    Core,
+    Full,
+}
 
-pub const PATH: u8 = 3;
-
-// What field a holds, by kind. A table would be laid on the stack at each call.
-#[tactic(auto, using(crate::proofs::Stretches::fields_a))]
-pub fn use_a(kind: u8) -> u8
-    ensures { result ≡ use_code (use_a (kind_of kind)) }
+// What field a holds, by kind.
+#[tactic(auto, unfolding(meaning::specs::Record::columns_of, meaning::specs::Record::arguments_of))]
+pub fn use_a(kind: Kind) -> Use
+    ensures { use_meant result ≡ use_a (kind_meant kind) }
 {
     match kind {
-        kind::ATOM => ATOM_NUMBER,
-        kind::DIAMOND..=kind::BOX | kind::CHOICE..=kind::STAR => PATH,
-        kind::TEST | kind::NOT..=kind::IMPLIES | kind::NEXT..=kind::SINCE => FORMULA,
-        _ => UNUSED,
+        Kind::Atom => Use::AtomNumber,
+        Kind::Modal(_) | Kind::Choice | Kind::Sequence | Kind::Star => Use::Child(Sort::Path),
+        Kind::Shorthand(Shorthand::End(_)) => Use::Unused,
+        Kind::Test | Kind::Shorthand(_) => Use::Child(Sort::Formula),
+        Kind::Constant(_) | Kind::Move(_) | Kind::Unknown => Use::Unused,
     }
 }
 
 // What field b holds.
-#[tactic(auto, using(crate::proofs::Stretches::fields_b))]
-pub fn use_b(kind: u8) -> u8
-    ensures { result ≡ use_code (use_b (kind_of kind)) }
+#[tactic(auto, unfolding(meaning::specs::Record::columns_of, meaning::specs::Record::arguments_of))]
+pub fn use_b(kind: Kind) -> Use
+    ensures { use_meant result ≡ use_b (kind_meant kind) }
 {
+    // The sort is found first: with a way out for each sort in the match below, callers run longer.
+    let sort = match kind {
+        Kind::Choice | Kind::Sequence => Sort::Path,
+        _ => Sort::Formula,
+    };
     match kind {
-        kind::DIAMOND..=kind::BOX | kind::AND..=kind::IMPLIES | kind::UNTIL..=kind::SINCE =>
-            FORMULA,
-        kind::CHOICE..=kind::SEQUENCE => PATH,
-        _ => UNUSED,
+        Kind::Modal(_) | Kind::Choice | Kind::Sequence => Use::Child(sort),
+        Kind::Shorthand(shorthand) => match shorthand {
+            Shorthand::Denied
+            | Shorthand::End(_)
+            | Shorthand::Beside(_, _)
+            | Shorthand::Along(_, _) => Use::Unused,
+            _ => Use::Child(sort),
+        },
+        _ => Use::Unused,
     }
 }
 
-// The sort of a record, numbered as the fields that hold such a child are.
-#[tactic(auto, using(crate::proofs::Stretches::sorts))]
-pub fn sort_of(kind: u8) -> u8
-    ensures { result ≡ sort_code (sort_of (kind_of kind)) }
+// The sort of a record.
+#[tactic(auto, unfolding(meaning::specs::Record::columns_of))]
+pub fn sort_of(kind: Kind) -> Sort
+    ensures { sort_meant result ≡ sort_of (kind_meant kind) }
 {
     match kind {
-        kind::STEP..=kind::STAR => PATH,
-        _ => FORMULA,
+        Kind::Move(_) | Kind::Test | Kind::Choice | Kind::Sequence | Kind::Star => Sort::Path,
+        _ => Sort::Formula,
     }
 }
-
-// The languages of formulas: core kinds alone, or shorthands too.
-pub const CORE: u8 = 0;
-
-pub const FULL: u8 = 1;
 
 // Whether the kind is one of the language.
-#[tactic(auto, using(crate::proofs::Stretches::languages))]
-pub fn takes(language: u8, kind: u8) -> bool
-    ensures { result ≡ known (language_of language) (kind_of kind) }
+#[tactic(auto, unfolding(meaning::specs::Record::known))]
+pub fn takes(language: Language, kind: Kind) -> bool
+    ensures { result ≡ known (language_meant language) (kind_meant kind) }
 {
     match kind {
-        kind::FALSE..=kind::STAR => true,
-        kind::NOT..=kind::SINCE => language == FULL,
-        _ => false,
+        Kind::Shorthand(_) => language == Language::Full,
+        Kind::Unknown => false,
+        _ => true,
     }
 }

@@ -1,3 +1,3 @@
 -- What the proofs of several functions cite.
-pub mod Putting
 pub mod Parts
+pub mod Putting

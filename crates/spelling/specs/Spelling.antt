@@ -1,10 +1,10 @@
--- The text of a record's tree, and signs as numbers: a byte for each character, the first one lowest, and a 1 above the last.
---   sign_bytes n          the characters of the sign n
---   own_sign kind a       the sign of a record of the kind whose field a holds a; a back step has none
+-- The text of a record's tree.
+--   sign_of kind          the sign of a kind, an atom's without its number; a back step has none
+--   own_sign kind a       the sign of a record of the kind whose field a holds a
 --   text_at s r           the text of record r's tree
 --   Spellable s           s is the records of a formula in core kinds
 --   Spelling s r at       r is one of them, and its text fits from the place `at` on
-use Rattle.std.specs.Prelude.{ℕ, zero, suc, ◌+◌, ◌/◌, ◌%◌, ◌<◌, ◌≤◌, true, false, cond, List, [], ◌∷◌, ◌++◌, leb, length}
+use Rattle.std.specs.Prelude.{ℕ, ◌+◌, ◌<◌, ◌≤◌, true, false, List, [], ◌++◌, length}
 use Rattle.meaning.specs.Record.{core, count, kind_at, Sort, sort_of}
 use Rattle.meaning.specs.Record.{Kind, constant, atom, modal, move, test, choice, sequence, star, shorthand, unknown}
 use Rattle.meaning.specs.Tree.{Tree, as_form, as_path, tree_at}
@@ -13,27 +13,28 @@ use Rattle.meaning.specs.Text.{decimal, spell, spell_path, most_text}
 use Rattle.meaning.specs.WellFormed.{WellFormed}
 
 -- ---- signs
-abbrev pub byte : ℕ
-byte = 256
-
--- At most m bytes; no number n has more than n.
-unfoldable pub bytes_in : ℕ → ℕ → List ℕ
-bytes_in zero n = []
-bytes_in (suc m) n = cond (leb n 1) [] (n % byte ∷ bytes_in m (n / byte))
-
-unfoldable pub sign_bytes : ℕ → List ℕ
-sign_bytes n = bytes_in n n
+unfoldable pub sign_of : Kind → List ℕ
+sign_of (constant false) = false_sign
+sign_of (constant true) = true_sign
+sign_of atom = atom_sign
+sign_of (modal m) = mode_sign m
+sign_of (move w) = move_sign w
+sign_of test = test_sign
+sign_of choice = choice_sign
+sign_of sequence = sequence_sign
+sign_of star = star_sign
+sign_of (shorthand σ) = []
+sign_of unknown = []
 
 unfoldable pub own_sign : Kind → ℕ → List ℕ
-own_sign (constant false) a = false_sign
-own_sign (constant true) a = true_sign
-own_sign atom a = atom_sign ++ decimal a
-own_sign (modal m) a = mode_sign m
-own_sign (move w) a = move_sign w
-own_sign test a = test_sign
-own_sign choice a = choice_sign
-own_sign sequence a = sequence_sign
-own_sign star a = star_sign
+own_sign (constant v) a = sign_of (constant v)
+own_sign atom a = sign_of atom ++ decimal a
+own_sign (modal m) a = sign_of (modal m)
+own_sign (move w) a = sign_of (move w)
+own_sign test a = sign_of test
+own_sign choice a = sign_of choice
+own_sign sequence a = sign_of sequence
+own_sign star a = sign_of star
 own_sign (shorthand σ) a = []
 own_sign unknown a = []
 

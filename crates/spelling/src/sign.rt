@@ -1,70 +1,81 @@
-// Signs, each as one number: a byte for each character, to be read from the right, and a 1 after the last.
+// The signs of kinds, and an atom's number in digits.
 ghost use Rattle.std.specs.Prelude.{◌≡◌, ◌+◌, ◌<◌, ◌≤◌, length};
-ghost use Rattle.meaning.specs.Record.{atom, kind_of};
-ghost use Rattle.meaning.specs.Text.{text_atoms, most_text};
-ghost use Rattle.copying.specs.Appended.{Appended};
-ghost use Rattle.spelling.specs.Spelling.{sign_bytes, own_sign};
+ghost use Rattle.meaning.specs.Record.{atom};
+ghost use Rattle.meaning.specs.Text.{text_atoms, most_text, decimal};
+ghost use Rattle.records.specs.Kinds.{kind_meant};
+ghost use Rattle.spelling.specs.Spelling.{sign_of, own_sign};
+ghost use Rattle.spelling.specs.Page.{Puts};
 
-use records::kind;
+use records::kind::{Kind, Mode, Way};
 
-const BYTE: u64 = 256;
-
-// No character left.
-const DONE: u64 = 1;
-
-// (
-pub const OPENING: u64 = 0x01_28;
-
-// )
-pub const CLOSING: u64 = 0x01_29;
-
-// p0 and p00, to which an atom's digits are added.
-const ONE_DIGIT: u64 = 0x01_30_70;
-
-const TWO_DIGITS: u64 = 0x01_30_30_70;
-
-// The table of the kinds' signs, as text beside each number.
-pub fn own_sign(kind: u8, a: usize) -> u64
-    requires { kind_of kind ≡ atom → a < text_atoms }
-    ensures { sign_bytes result ≡ own_sign (kind_of kind) a }
+// A back step has no sign, nor has any kind that is not in the core.
+#[tactic(auto, unfolding(crate::specs::Spelling::sign_of, meaning::specs::Text::mode_sign, meaning::specs::Text::move_sign))]
+fn sign_of(kind: Kind) -> &'static [u8]
+    ensures { result.now ≡ sign_of (kind_meant kind) }
 {
     match kind {
-        kind::FALSE => 0x01_65_73_6C_61_66_23, // #false
-        kind::TRUE => 0x01_65_75_72_74_23, // #true
-        kind::ATOM => atom_sign(a as u64),
-        kind::DIAMOND => 0x01_3F_3E_2E, // .>?
-        kind::BOX => 0x01_2A_3E_2E, // .>*
-        kind::STEP => 0x01_74_26, // &t
-        kind::TEST => 0x01_3F, // ?
-        kind::CHOICE => 0x01_2B, // +
-        kind::SEQUENCE => 0x01_3B, // ;
-        kind::STAR => 0x01_2A, // *
-        _ => DONE, // a back step has none, nor has any other number
+        Kind::Constant(false) => b"#false",
+        Kind::Constant(true) => b"#true",
+        Kind::Atom => b"p",
+        Kind::Modal(Mode::Diamond) => b".>?",
+        Kind::Modal(Mode::Box) => b".>*",
+        Kind::Move(Way::Ahead) => b"&t",
+        Kind::Test => b"?",
+        Kind::Choice => b"+",
+        Kind::Sequence => b";",
+        Kind::Star => b"*",
+        Kind::Move(Way::Back) | Kind::Shorthand(_) | Kind::Unknown => b"",
     }
 }
 
-// p and the atom's number in one digit or two.
-fn atom_sign(number: u64) -> u64
-    requires { number < text_atoms }
-    ensures { sign_bytes result ≡ own_sign atom number }
-{
-    if number < 10 {
-        return ONE_DIGIT + BYTE * number;
-    }
-    TWO_DIGITS + BYTE * (number / 10) + BYTE * BYTE * (number % 10)
+// The text so far: the buffer's first bytes. Not one with the page of `listing`, on which each text has a bound: here its length is known.
+#[derive(Drop)]
+pub struct Page<'a> {
+    pub buffer: &'a mut [u8; crate::MOST_TEXT],
+    pub size: usize,
 }
 
-// Puts a sign's characters one after another, and gives the place after the last.
-pub fn put_sign(buffer: &mut [u8; crate::MOST_TEXT], at: usize, sign: u64) -> usize
-    requires { at + length (sign_bytes sign) ≤ most_text }
-    ensures { Appended buffer.old at (sign_bytes sign) result buffer.new }
-{
-    let mut rest = sign;
-    let mut n = at;
-    while DONE < rest {
-        buffer[n] = (rest % BYTE) as u8;
-        rest /= BYTE;
-        n += 1;
+impl Page<'_> {
+    // Puts the sign of a record whose field a holds a: an atom's has its number.
+    #[tactic(auto, using(crate::proofs::Putting::put_more), unfolding(crate::specs::Spelling::sign_of, crate::specs::Spelling::own_sign))]
+    pub fn put_own(&mut self, kind: Kind, a: usize)
+        requires low { kind_meant kind ≡ atom → a < text_atoms }
+        requires room { self.old.size + length (own_sign (kind_meant kind) a) ≤ most_text }
+        ensures { Puts self.old (own_sign (kind_meant kind) a) self.new }
+    {
+        self.put(sign_of(kind));
+        if kind == Kind::Atom {
+            self.put_number(a);
+        }
     }
-    n
+
+    // An atom's number in one digit or two.
+    fn put_number(&mut self, number: usize)
+        requires low { number < text_atoms }
+        requires room { self.old.size + length (decimal number) ≤ most_text }
+        ensures { Puts self.old (decimal number) self.new }
+    {
+        if number < 10 {
+            self.put(&[digit(number)]);
+        } else {
+            self.put(&[digit(number / 10), digit(number % 10)]);
+        }
+    }
+
+    // Puts characters one after another.
+    pub fn put(&mut self, characters: &[u8])
+        requires { self.old.size + length characters.now ≤ most_text }
+        ensures { Puts self.old characters.now self.new }
+    {
+        let at = self.size;
+        self.size = copying::append(&mut self.buffer[..], at, characters);
+    }
+}
+
+// `try_from` in place of `as` would ask again what is required.
+fn digit(n: usize) -> u8
+    requires { n < 10 }
+    ensures { result ≡ 48 + n }
+{
+    b'0' + n as u8
 }

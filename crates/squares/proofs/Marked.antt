@@ -14,17 +14,12 @@ pub test_marked : {f : ℕ → ℕ} {s : List ℕ} {l n : ℕ} → l ≤ width �
 unfolding test_square
 test_marked u = diagonal_self {base = λ m. 0} u refl zeros_at
 
-pub next_bound : (w : Way) → next_cell w ≤ width
-unfolding next_cell
-next_bound ahead = omega arith
-next_bound back = omega arith
-
-pub move_marked : (w : Way) {s : List ℕ} {l n : ℕ} → l ≤ width → n + 1 ≤ width → l ≤ n + 1
-    → Diagonal (next_cell w) (λ i. 2) (replicate area 0) s n → Holds l s (move_square w)
+pub move_marked : (w : Way) {s : List ℕ} {l n : ℕ} → Diagonal (next_cell w) (λ i. 2) (replicate area 0) s n → l ≤ width
+    → n + 1 ≤ width → l ≤ n + 1 → Holds l s (move_square w)
 unfolding next_cell move_square
-move_marked ahead u b e w =
+move_marked ahead w u b e =
     diagonal_holds {base = λ m. 0} u refl zeros_at 1 (λ k j. k) (λ k j. j) (λ k j. k + 1) w
     (λ k j p q z. (omega arith, omega arith)) (λ k j x p q h z. omega arith)
-move_marked back u b e w =
+move_marked back w u b e =
     diagonal_holds {base = λ m. 0} u refl zeros_at width (λ k j. j) (λ k j. j + 1) (λ k j. k) w
     (λ k j p q z. (omega arith, omega arith)) (λ k j x p q h z. omega arith)

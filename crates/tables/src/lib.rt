@@ -1,35 +1,30 @@
-// Rows of the table: the values of one formula at each instant, a row each.
+// Rows of the table: the values of one formula at each instant, a row each. The table is C's, so a row is no type: it is told by its place.
 #![tactic(auto)]
 
-ghost use Rattle.std.specs.Prelude.{◌≡◌, ◌+◌, ◌*◌, ◌<◌, ◌≤◌, length};
+ghost use Rattle.std.specs.Prelude.{ℕ, ◌≡◌, ◌+◌, ◌*◌, ◌<◌, ◌≤◌, length, get_or};
 ghost use Rattle.meaning.specs.Run.{cell_of};
 ghost use Rattle.meaning.specs.Record.{most_records};
-ghost use Rattle.meaning.specs.Refusal.{most_instants};
-ghost use Rattle.meaning.specs.Value.{diamond_row, box_row, modal_row};
-ghost use Rattle.records.specs.Code.{mode_of};
+ghost use Rattle.meaning.specs.Value.{modal_row};
+ghost use Rattle.records.specs.Kinds.{mode_meant};
 ghost use Rattle.rows.specs.Cells.{at, row_at, Put};
 
-use records::kind;
-use rows::{Square, WIDTH};
+use records::kind::Mode;
+use rows::{Instants, Square, WIDTH};
 
 // Where row r starts.
-pub fn row_start(r: usize, l: usize) -> usize
-    requires { (r ≤ most_records) × (l ≤ most_instants) }
+pub fn row_start(r: usize, l: Instants) -> usize
+    requires { r ≤ most_records }
     ensures { result ≡ r * l }
 {
-    r * l
+    r * l.number()
 }
 
-// The same value at each of l instants.
+// The same value in each of l cells.
 pub fn put_constant(table: &mut [u8], start: usize, l: usize, v: u8)
     requires { start + l ≤ length table.old }
     ensures { Put l start (λ k. v) table.old table.new }
 {
-    let mut k: usize = 0;
-    while k < l {
-        table[start + k] = v;
-        k += 1;
-    }
+    table[start..start + l].fill(v);
 }
 
 // Atom i of rows of `atoms` cells.
@@ -37,63 +32,50 @@ pub fn put_atom(table: &mut [u8], start: usize, l: usize, cells: &[u8], atoms: u
     requires { (start + l ≤ length table.old) × (length cells.now ≡ atoms * l) × (i < atoms) }
     ensures { Put l start (λ k. cell_of atoms cells.now k i) table.old table.new }
 {
-    let mut k: usize = 0;
-    let mut at = i;
-    while k < l {
-        table[start + k] = cells[at];
-        at += atoms;
-        k += 1;
+    for k in 0..l {
+        table[start + k] = cells[atoms * k + i];
     }
 }
 
 // The diamond or the box over a path's square of the formula whose row starts at `from`, which ends at or before `start`.
-pub fn put_modal(kind: u8, s: &Square, table: &mut [u8], from: usize, start: usize, l: usize)
-    requires { (start + l ≤ length table.old) × (from + l ≤ start) × (l ≤ most_instants) }
-    ensures { Put l start (modal_row (mode_of kind) l (at s.now) (row_at table.old from)) table.old table.new }
+pub fn put_modal(mode: Mode, s: &Square, table: &mut [u8], from: usize, start: usize, l: Instants)
+    requires { (start + l ≤ length table.old) × (from + l ≤ start) }
+    ensures { Put l start (modal_row (mode_meant mode) l (at s.now) (row_at table.old from)) table.old table.new }
 {
-    let mut k: usize = 0;
-    while k < l {
-        table[start + k] = modal_cell(kind, s, &table[..], from, l, k);
-        k += 1;
+    for k in 0..l.number() {
+        table[start + k] = modal_cell(mode, s, &table[..], from, l, k);
     }
 }
 
-// The diamond or the box at instant k.
-#[tactic(auto, unfolding(records::specs::Code::mode_of, meaning::specs::Value::modal_row))]
-fn modal_cell(kind: u8, s: &Square, table: &[u8], from: usize, l: usize, k: usize) -> u8
-    requires { (from + l ≤ length table.now) × (k < l) × (l ≤ most_instants) }
-    ensures { result ≡ modal_row (mode_of kind) l (at s.now) (row_at table.now from) k }
+// The diamond or the box at instant k: over all instants j the greatest of the smaller of two values, the path's from k to j and the formula's
+// at j, or the least of the formula's value at j where the path leads there.
+fn modal_cell(mode: Mode, s: &Square, table: &[u8], from: usize, l: Instants, k: usize) -> u8
+    requires { (from + l ≤ length table.now) × (k < l) }
+    ensures { result ≡ modal_row (mode_meant mode) l (at s.now) (row_at table.now from) k }
 {
-    match kind {
-        kind::DIAMOND => diamond_cell(s, table, from, l, k),
-        _ => box_cell(s, table, from, l, k),
+    let path = &s[k * WIDTH..k * WIDTH + l.number()];
+    let values = &table[from..from + l.number()];
+    match mode {
+        Mode::Diamond => over_instants(path, values, 0, |most, u, v| {
+            three::greater(most, three::lesser(u, v))
+        }),
+        Mode::Box => over_instants(path, values, 2, |least, u, v| {
+            three::lesser(least, three::imp(u, v))
+        }),
     }
 }
 
-// The greatest over all instants j of the path's value from k to j and the formula's at j, the smaller of the two.
-fn diamond_cell(s: &Square, table: &[u8], from: usize, l: usize, k: usize) -> u8
-    requires { (from + l ≤ length table.now) × (k < l) × (l ≤ most_instants) }
-    ensures { result ≡ diamond_row l (at s.now) (row_at table.now from) k }
+// From `first` on, each instant in turn is taken in: the path's value to it and the formula's there. If the values after each turn can only be
+// those of f, the last one is the result. A loop by index: over a `zip` or a range with `fold` the proof does not close.
+fn over_instants<F: Fn(u8, u8, u8) -> u8>(path: &[u8], values: &[u8], first: u8, take: F) -> u8
+    requires at_each { F.IsAlwaysCallable take }
+    requires as_many { length path.now ≡ length values.now }
+    ensures { (n : ℕ) (f : ℕ → ℕ) → n ≡ length path.now → first ≡ f 0
+        → ((j v : ℕ) → j < n → F.post take (f j) (get_or path.now j 0) (get_or values.now j 0) v → v ≡ f (j + 1)) → result ≡ f n }
 {
-    let mut most: u8 = 0;
-    let mut j: usize = 0;
-    while j < l {
-        most = three::greater(most, three::lesser(s[k * WIDTH + j], table[from + j]));
-        j += 1;
+    let mut value = first;
+    for j in 0..path.len() {
+        value = take(value, path[j], values[j]);
     }
-    most
-}
-
-// The least over all instants j of the formula's value at j where the path leads from k to j.
-fn box_cell(s: &Square, table: &[u8], from: usize, l: usize, k: usize) -> u8
-    requires { (from + l ≤ length table.now) × (k < l) × (l ≤ most_instants) }
-    ensures { result ≡ box_row l (at s.now) (row_at table.now from) k }
-{
-    let mut least: u8 = 2;
-    let mut j: usize = 0;
-    while j < l {
-        least = three::lesser(least, three::imp(s[k * WIDTH + j], table[from + j]));
-        j += 1;
-    }
-    least
+    value
 }

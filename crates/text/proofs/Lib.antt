@@ -1,4 +1,4 @@
 -- What the proofs of both services cite.
-pub mod Numbers
+pub mod Backless
 pub mod Scanning
 pub mod Storing

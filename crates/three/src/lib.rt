@@ -1,4 +1,4 @@
-// The three values as bytes: 0 false, 1 there only, 2 here.
+// The three values as bytes, as C's cells and tables have them: 0 false, 1 there only, 2 here.
 #![tactic(auto)]
 
 ghost use Rattle.std.specs.Prelude.{◌≡◌, min, max};
@@ -8,20 +8,14 @@ ghost use Rattle.meaning.specs.Three.{imp, negation};
 pub fn lesser(u: u8, v: u8) -> u8
     ensures { result ≡ min u v }
 {
-    if u < v {
-        return u;
-    }
-    v
+    u.min(v)
 }
 
 // The value of "u or v".
 pub fn greater(u: u8, v: u8) -> u8
     ensures { result ≡ max u v }
 {
-    if u < v {
-        return v;
-    }
-    u
+    u.max(v)
 }
 
 // The value of "v where u".

@@ -2,27 +2,26 @@
 -- record of the child's sort, and what is asked of the record holds of that one too.
 use Prim.Native.Nat.{ℕ, ◌+◌, ◌*◌, ◌<◌, ◌≤◌}
 use mathlib.Core.Path.{◌≡◌, refl}
+use mathlib.Core.Bool.{Bool}
+use mathlib.Core.Logic.{◌⊎◌, inl, inr}
 use mathlib.Core.List.{List}
 use native.Mathlib.Omega.{arith}
 use lib.ListN.{length}
-use Rattle.meaning.specs.Record.{kinds, kind_at, kind_byte, field_a, field_b, Sort, formula, path, sort_of, columns_of}
-use Rattle.meaning.specs.Record.{atomNumber, child, use_a, use_b, most_records}
-use Rattle.meaning.specs.Refusal.{most_instants}
-use Rattle.records.proofs.Held.{test_first, path_first, join_second, modal_first, modal_second}
-use Rattle.records.proofs.Numbers.{path_number, formula_number}
-use Rattle.records.proofs.Ranges.{stretch}
+use Rattle.meaning.specs.Record.{Kind, atom, modal, test, choice, sequence, star, known, kind_at, field_a, field_b, columns_of}
+use Rattle.meaning.specs.Record.{Mode, Sort, formula, path, sort_of, child, use_a, use_b}
+use Rattle.meaning.proofs.Nodes.{differs}
+use Rattle.records.specs.Kinds.{kind_meant}
+use Rattle.records.specs.declared.kind.Mode as mode
+use Rattle.records.specs.declared.kind.Way as way
+use Rattle.records.specs.declared.kind.Kind as code
 use Rattle.valuing.specs.Valuing.{Asked}
 use Rattle.valuing.proofs.Table.{row_end}
 
--- The record r is of the sort σ and may be valued into the table t: at a call, where the measure m is its number, and
--- as a child, below that.
+-- The record r is of the sort σ and may be valued into the table t; and so is an earlier record, a child of m.
 abbrev pub AskedAs : List ℕ → ℕ → ℕ → List ℕ → ℕ → List ℕ → Sort → Type 0
 AskedAs s A L cells r t σ = Asked s A L cells r t × (sort_of (kind_at s r) ≡ σ)
 
-abbrev Call : List ℕ → ℕ → ℕ → List ℕ → ℕ → ℕ → List ℕ → Sort → Type 0
-Call s A L cells m r t σ = (r ≡ m) × AskedAs s A L cells r t σ
-
-abbrev Child : List ℕ → ℕ → ℕ → List ℕ → ℕ → ℕ → List ℕ → Sort → Type 0
+abbrev pub Child : List ℕ → ℕ → ℕ → List ℕ → ℕ → ℕ → List ℕ → Sort → Type 0
 Child s A L cells m r t σ = (r < m) × AskedAs s A L cells r t σ
 
 module _ {s : List ℕ} {A L : ℕ} {cells : List ℕ} {r : ℕ} {t : List ℕ} (w : Asked s A L cells r t) where
@@ -30,11 +29,13 @@ module _ {s : List ℕ} {A L : ℕ} {cells : List ℕ} {r : ℕ} {t : List ℕ} 
   lower q h = record { legal = w.legal; index = omega (arith, w.index) }
 
   -- The first child, or the second, of the sort σ.
-  pub ask_first : {a : ℕ} {σ : Sort} → child σ ≡ use_a (kind_at s r) → a ≡ field_a s r → Child s A L cells r a t σ
-  ask_first u f = let h = rw (← u) at (w.legal.formed.first r w.index) in rw f (h.0, (lower _ h.0, h.1))
+  pub ask_first : {K : Kind} {a : ℕ} {σ : Sort} → K ≡ kind_at s r → use_a K ≡ child σ → a ≡ field_a s r
+      → Child s A L cells r a t σ
+  ask_first e u f = let h = rw (← e, u) at (w.legal.formed.first r w.index) in rw f (h.0, (lower _ h.0, h.1))
 
-  pub ask_second : {b : ℕ} {σ : Sort} → child σ ≡ use_b (kind_at s r) → b ≡ field_b s r → Child s A L cells r b t σ
-  ask_second u f = let h = rw (← u) at (w.legal.formed.second r w.index) in rw f (h.0, (lower _ h.0, h.1))
+  pub ask_second : {K : Kind} {b : ℕ} {σ : Sort} → K ≡ kind_at s r → use_b K ≡ child σ → b ≡ field_b s r
+      → Child s A L cells r b t σ
+  ask_second e u f = let h = rw (← e, u) at (w.legal.formed.second r w.index) in rw f (h.0, (lower _ h.0, h.1))
 
   -- All this holds too with a table of the same length.
   pub ask_along : {t' : List ℕ} → length t' ≡ length t → Asked s A L cells r t'
@@ -47,62 +48,88 @@ module _ {s : List ℕ} {A L : ℕ} {cells : List ℕ} {r : ℕ} {t : List ℕ} 
   pub row_within : {start room : ℕ} → start ≡ r * L → room ≡ length t → start + L ≤ room
   row_within f e = omega (arith, row_room)
 
-  -- The numbers from which the row's start is computed are low.
-  pub row_low : (r ≤ most_records) × (L ≤ most_instants)
-  row_low = (omega (arith, w.index, w.legal.formed.few), w.legal.trace.few)
-
+  -- ---- the children by the record's kind
   -- An atom's number is below the number of atoms.
-  pub atom_low : {a : ℕ} → kind_byte s r ≡ 2 → a ≡ field_a s r → a < A
-  unfolding columns_of kinds
-  atom_low e f =
-      let u = stretch use_a atomNumber 2 1 refl (kind_byte s r) (omega arith) (omega arith) in
-      rw f (rw (← u) at (w.legal.formed.first r w.index))
+  pub atom_low : {a : ℕ} → atom ≡ kind_at s r → a ≡ field_a s r → a < A
+  unfolding columns_of
+  atom_low e f = rw f (rw (← e) at (w.legal.formed.first r w.index))
 
--- ---- the children by the record's kind, whose number is n
-module _ {s : List ℕ} {A L : ℕ} {cells : List ℕ} {m r n : ℕ} {t : List ℕ} where
-  module _ (c : Call s A L cells m r t path) (num : n ≡ kind_byte s r) where
-    pub test_formula : {a : ℕ} → n ≡ 7 → a ≡ field_a s r → Child s A L cells m a t formula
-    test_formula e f = rw c.0 at (ask_first c.1.0 (test_first (kind_byte s r) (omega arith)) f)
+  pub test_formula : {a : ℕ} → test ≡ kind_at s r → a ≡ field_a s r → Child s A L cells r a t formula
+  unfolding columns_of
+  test_formula e f = ask_first e refl f
 
-    pub part_first : {a : ℕ} → 8 ≤ n → a ≡ field_a s r → Child s A L cells m a t path
-    part_first l f =
-        let h = path_number c.1.0.legal.formed r c.1.0.index c.1.1 in
-        rw c.0 at (ask_first c.1.0 (path_first (kind_byte s r) (omega arith) h.1) f)
+  pub modal_path : {m : Mode} {a : ℕ} → modal m ≡ kind_at s r → a ≡ field_a s r → Child s A L cells r a t path
+  unfolding columns_of
+  modal_path e f = ask_first e refl f
 
-    pub part_second : {b : ℕ} → 8 ≤ n → (n ≡ 10 → ⊥) → b ≡ field_b s r → Child s A L cells m b t path
-    part_second l d f =
-        let h = path_number c.1.0.legal.formed r c.1.0.index c.1.1 in
-        rw c.0 at (ask_second c.1.0 (join_second (kind_byte s r) (omega arith) (omega arith)) f)
+  pub modal_formula : {m : Mode} {b : ℕ} → modal m ≡ kind_at s r → b ≡ field_b s r → Child s A L cells r b t formula
+  unfolding columns_of
+  modal_formula e f = ask_second e refl f
 
-  module _ (c : Call s A L cells m r t formula) (num : n ≡ kind_byte s r) (l : 3 ≤ n) where
-    pub modal_path : {a : ℕ} → a ≡ field_a s r → Child s A L cells m a t path
-    modal_path f =
-        let h = formula_number c.1.0.legal.formed r c.1.0.index c.1.1 in
-        rw c.0 at (ask_first c.1.0 (modal_first (kind_byte s r) (omega arith) h) f)
+  pub star_path : {a : ℕ} → star ≡ kind_at s r → a ≡ field_a s r → Child s A L cells r a t path
+  unfolding columns_of
+  star_path e f = ask_first e refl f
 
-    pub modal_formula : {b : ℕ} → b ≡ field_b s r → Child s A L cells m b t formula
-    modal_formula f =
-        let h = formula_number c.1.0.legal.formed r c.1.0.index c.1.1 in
-        rw c.0 at (ask_second c.1.0 (modal_second (kind_byte s r) (omega arith) h) f)
+  module _ {K : Kind} (c : (K ≡ choice) ⊎ (K ≡ sequence)) (e : K ≡ kind_at s r) where
+    pub part_first : {a : ℕ} → a ≡ field_a s r → Child s A L cells r a t path
+    unfolding columns_of
+    part_first f = ask_first e (elim c [ inl d ↦ rw d | inr d ↦ rw d ]) f
 
--- The record r of the kind n is a sequence that begins with the test a.
-pub record Tested (s : List ℕ) (r n a : ℕ) : Type 0 where
-  pub first : a ≡ field_a s r
-  pub sequence : n ≡ 9
-  pub test : kind_byte s a ≡ 7
+    pub part_second : {b : ℕ} → b ≡ field_b s r → Child s A L cells r b t path
+    unfolding columns_of
+    part_second f = ask_second e (elim c [ inl d ↦ rw d | inr d ↦ rw d ]) f
 
 module _ {s : List ℕ} {A L : ℕ} {cells : List ℕ} {m : ℕ} {t : List ℕ} where
-  module _ {r n a : ℕ} (c : Call s A L cells m r t path) (num : n ≡ kind_byte s r) (e : Tested s r n a) where
-    pub tested_formula : {f : ℕ} → f ≡ field_a s a → Child s A L cells m f t formula
-    tested_formula ff =
-        let h = part_first c num (omega arith) e.first in
-        let g = test_formula (refl, h.1) refl e.test ff in
-        (omega arith, g.1)
-
-    pub tested_path : {b : ℕ} → b ≡ field_b s r → Child s A L cells m b t path
-    tested_path fb = part_second c num (omega arith) (λ d. omega arith) fb
-
   -- A child may be valued too into a table of the same length.
   pub child_along : {q : ℕ} {σ : Sort} {t' : List ℕ} → Child s A L cells m q t σ → length t' ≡ length t
       → Child s A L cells m q t' σ
   child_along h e = (h.0, (ask_along h.1.0 e, h.1.1))
+
+-- ---- the kinds of a sort
+-- A formula is a constant, an atom or a modality: no other kind of the core is a formula's.
+pub formula_kinds : {s : List ℕ} {A L : ℕ} {cells : List ℕ} {r : ℕ} {t : List ℕ} → AskedAs s A L cells r t formula
+    → (K : code.Kind) → kind_meant K ≡ kind_at s r → ((b : Bool) → K ≡ code.TheVariants.Constant b → ⊥) → (K ≡ code.TheVariants.Atom → ⊥)
+    → ((m : mode.Mode) → K ≡ code.TheVariants.Modal m → ⊥) → ⊥
+unfolding columns_of known
+formula_kinds w (code.TheVariants.Constant b) e c a m = c b refl
+formula_kinds w code.TheVariants.Atom e c a m = a refl
+formula_kinds w (code.TheVariants.Modal k) e c a m = m k refl
+formula_kinds w (code.TheVariants.Move v) e c a m = differs w.1 (rw (← e))
+formula_kinds w code.TheVariants.Test e c a m = differs w.1 (rw (← e))
+formula_kinds w code.TheVariants.Choice e c a m = differs w.1 (rw (← e))
+formula_kinds w code.TheVariants.Sequence e c a m = differs w.1 (rw (← e))
+formula_kinds w code.TheVariants.Star e c a m = differs w.1 (rw (← e))
+formula_kinds {r = r} w (code.TheVariants.Shorthand z) e c a m = let h = rw (← e) at (w.0.legal.formed.kinds r w.0.index) in cc
+formula_kinds {r = r} w code.TheVariants.Unknown e c a m = let h = rw (← e) at (w.0.legal.formed.kinds r w.0.index) in cc
+
+-- A path that is no move and no test has a path for its first part.
+pub first_path : {s : List ℕ} {A L : ℕ} {cells : List ℕ} {r : ℕ} {t : List ℕ} → AskedAs s A L cells r t path
+    → (K : code.Kind) → kind_meant K ≡ kind_at s r → ((v : way.Way) → K ≡ code.TheVariants.Move v → ⊥) → (K ≡ code.TheVariants.Test → ⊥)
+    → use_a (kind_meant K) ≡ child path
+unfolding columns_of
+first_path w (code.TheVariants.Constant b) e v d = absurd (differs (rw (← e)) w.1)
+first_path w code.TheVariants.Atom e v d = absurd (differs (rw (← e)) w.1)
+first_path w (code.TheVariants.Modal k) e v d = absurd (differs (rw (← e)) w.1)
+first_path w (code.TheVariants.Move z) e v d = absurd (v z refl)
+first_path w code.TheVariants.Test e v d = absurd (d refl)
+first_path w code.TheVariants.Choice e v d = refl
+first_path w code.TheVariants.Sequence e v d = refl
+first_path w code.TheVariants.Star e v d = refl
+first_path w (code.TheVariants.Shorthand z) e v d = absurd (differs (rw (← e)) w.1)
+first_path w code.TheVariants.Unknown e v d = absurd (differs (rw (← e)) w.1)
+
+-- A path that is no move, test or star is a choice or a sequence.
+pub path_kinds : {s : List ℕ} {A L : ℕ} {cells : List ℕ} {r : ℕ} {t : List ℕ} → AskedAs s A L cells r t path
+    → (K : code.Kind) → kind_meant K ≡ kind_at s r → ((v : way.Way) → K ≡ code.TheVariants.Move v → ⊥) → (K ≡ code.TheVariants.Test → ⊥) → (K ≡ code.TheVariants.Star → ⊥)
+    → (kind_meant K ≡ choice) ⊎ (kind_meant K ≡ sequence)
+unfolding columns_of
+path_kinds w (code.TheVariants.Constant b) e v d o = absurd (differs (rw (← e)) w.1)
+path_kinds w code.TheVariants.Atom e v d o = absurd (differs (rw (← e)) w.1)
+path_kinds w (code.TheVariants.Modal k) e v d o = absurd (differs (rw (← e)) w.1)
+path_kinds w (code.TheVariants.Move z) e v d o = absurd (v z refl)
+path_kinds w code.TheVariants.Test e v d o = absurd (d refl)
+path_kinds w code.TheVariants.Choice e v d o = inl refl
+path_kinds w code.TheVariants.Sequence e v d o = inr refl
+path_kinds w code.TheVariants.Star e v d o = absurd (o refl)
+path_kinds w (code.TheVariants.Shorthand z) e v d o = absurd (differs (rw (← e)) w.1)
+path_kinds w code.TheVariants.Unknown e v d o = absurd (differs (rw (← e)) w.1)

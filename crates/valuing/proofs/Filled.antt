@@ -16,7 +16,6 @@ use Rattle.valuing.specs.Valuing.{Under, Legal, Asked, RowsValued}
 use Rattle.valuing.proofs.Table.{row_end}
 use Rattle.valuing.proofs.Tabled.{rows_written}
 use Rattle.valuing.proofs.Reached.{all_under}
-use Rattle.valuing.proofs.Children.{row_room}
 
 module _ {s : List ℕ} {A L : ℕ} {cells d : List ℕ} (w : Legal s A L cells (length d))
     {n r : ℕ} (number : n ≡ count s) (one : suc r ≡ n) {cleared : List ℕ}
@@ -33,10 +32,6 @@ module _ {s : List ℕ} {A L : ℕ} {cells d : List ℕ} (w : Legal s A L cells 
         let e : pred (count s) ≡ r = omega arith in
         let z : i ≡ r * L + 0 = omega arith in
         rw (z, e) ((v.rows r Under.itself last_asked.1).values 0 w.trace.some)
-
-    -- It lies in the table.
-    pub first_within : (i : ℕ) → i ≡ r * L → i < length done
-    first_within i h = omega (arith, row_room last_asked.0, v.steady.size, w.trace.some)
 
     row_right : (q k : ℕ) → q < n → k < L → row_at done (q * L) k ≡ row_of s A L cells q k
     unfolding row_of row_by

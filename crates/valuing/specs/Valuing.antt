@@ -6,11 +6,11 @@
 --   Steady s A L cells r old new   right rows stay right, and so do the rows of paths and all that stands after row r
 --   RowsValued s A L cells r old new   besides, the rows of the formulas under r are right
 --   Squared s A L cells p bytes    the bytes are the square of path p
---   Moves s n p                    path p is a move of the kind n, with tests before it or after it
+--   Moves s w p                    path p is a move in the way w, with tests before it or after it
 --   PathSquare s L p bytes         over L instants the bytes are the square of path p, on some trace
 use Rattle.std.specs.Prelude.{ℕ, ◌+◌, ◌*◌, ◌<◌, ◌≤◌, ◌≡◌, List, length, get_or}
 use Rattle.meaning.specs.Run.{cell_of}
-use Rattle.meaning.specs.Record.{core, count, kind_at, kind_byte, field_a, field_b, Sort, formula, path, sort_of, child, use_a, use_b}
+use Rattle.meaning.specs.Record.{Way, move, test, sequence, core, count, kind_at, field_a, field_b, Sort, formula, path, sort_of, child, use_a, use_b}
 use Rattle.meaning.specs.Tree.{form_at, path_at}
 use Rattle.meaning.specs.Value.{value_of, square_of}
 use Rattle.meaning.specs.WellFormed.{WellFormed, Trace}
@@ -47,10 +47,10 @@ module _ (s : List ℕ) (A L : ℕ) (cells : List ℕ) where
   abbrev pub Squared : ℕ → List ℕ → Type 0
   Squared p bytes = Holds L bytes (square_of L (cell_of A cells) (path_at s p))
 
-pub data Moves (s : List ℕ) (n : ℕ) : ℕ → Type 0 where
-  itself : {p : ℕ} → kind_byte s p ≡ n → Moves s n p
-  tested : {p : ℕ} → kind_byte s p ≡ 9 → kind_byte s (field_a s p) ≡ 7 → Moves s n (field_b s p) → Moves s n p
-  testing : {p : ℕ} → kind_byte s p ≡ 9 → kind_byte s (field_b s p) ≡ 7 → Moves s n (field_a s p) → Moves s n p
+pub data Moves (s : List ℕ) (w : Way) : ℕ → Type 0 where
+  itself : {p : ℕ} → kind_at s p ≡ move w → Moves s w p
+  tested : {p : ℕ} → kind_at s p ≡ sequence → kind_at s (field_a s p) ≡ test → Moves s w (field_b s p) → Moves s w p
+  testing : {p : ℕ} → kind_at s p ≡ sequence → kind_at s (field_b s p) ≡ test → Moves s w (field_a s p) → Moves s w p
 
 pub record PathSquare (s : List ℕ) (L p : ℕ) (bytes : List ℕ) : Type 0 where
   pub atoms : ℕ

@@ -1,10 +1,6 @@
 -- The rows from `from` up to k are passed, and the others are as they were.
-use Rattle.std.proofs.Common.{◌-◌, ◌≤◌}
 use Rattle.closing.specs.Closing.{PassedRows}
 use Rattle.closing.proofs.pass.Given as goal
 
 abbrev pub invariant-loop-k : goal.invariant-loop-k
-invariant-loop-k l = (l.from ≤ l.k) × (l.k ≤ l.to) × PassedRows l.mid l.from l.k l.initial.s l.s
-
-abbrev pub decreases-loop-k : goal.decreases-loop-k
-decreases-loop-k l = l.to - l.k
+invariant-loop-k l = PassedRows l.mid l.from l.k l.initial.s l.s

@@ -1,8 +1,7 @@
--- One byte more is stored at each turn; after the last, all `size` are.
-use Rattle.std.proofs.Common.{zero-add, arith, rules}
-use Rattle.meaning.proofs.Stores.{sets_more}
+-- The output's first bytes are the buffer's.
+use Rattle.std.proofs.Common.{arith, length-take-le, sym}
+use Rattle.copying.proofs.Storing.{stored}
 use Rattle.copying.proofs.copy.Goals as goal
 
-pub loop-i-preserved : goal.loop-i-preserved
-loop-i-preserved c =
-    (search rules, rw c.loop-i.invariant.1 (rw zero-add at (sets_more c.args.buffer.now c.args.out.now 0 c.loop-i.i (omega arith))))
+pub returns : goal.returns
+returns c = stored 0 _ _ _ _ c.copy_from_slice.ensures.after (sym (length-take-le _ _ c.requires.0)) (omega arith)

@@ -1,10 +1,11 @@
 -- A text that is read is the formula's spelling, which has as many marks as the formula has records.
-use Rattle.std.proofs.Common.{◌∙◌}
-use Rattle.counting.proofs.Marks.{marked_more, marked_done, text_marks}
+use Rattle.std.proofs.Common.{◌≡◌, ◌∙◌, rules}
+use Rattle.std.specs.Prelude.{count_by}
+use Rattle.counting.specs.Marks.{is_mark}
+use Rattle.counting.proofs.Marks.{text_marks}
 use Rattle.counting.proofs.size_of.Goals as goal
 
-pub loop-i-preserved : goal.loop-i-preserved
-loop-i-preserved c = marked_more _ _ _ c.loop-i.invariant _ c.loop-i-test.true c.mark.ensures
-
 pub returns : goal.returns
-returns c = marked_done _ _ _ c.loop-i.invariant c.loop-i-test.false ∙ text_marks _ c.requires.1
+returns c =
+    let n : c.sum-n.result ≡ count_by is_mark c.args.text.now = search rules in
+    c.from.ensures ∙ n ∙ text_marks _ c.requires.1

@@ -1,36 +1,34 @@
--- The test of the kind is the one of the rule, and each arm's callee makes its square.
-use Rattle.std.proofs.Common.{refl, sym, arith}
-use borrow.Author.Tests.{eq-eqb, ne_eqb}
+-- Each arm's callee makes its square.
+use Rattle.std.proofs.Common.{refl, sym, ap, arith}
+use Rattle.records.specs.Kinds.{way_meant, kind_meant}
 use Rattle.rows.specs.Cells.{at}
 use Rattle.joining.specs.Joining.{join_of}
 use Rattle.rows.proofs.Same.{holds_same, sequence_same}
+use Rattle.joining.proofs.Joined.{joined_sequence}
 use Rattle.joining.proofs.join.Goals as goal
 
-pub returns-then-kind-eq-CHOICE : goal.returns-then-kind-eq-CHOICE
+pub returns-in-Choice-default-default : goal.returns-in-Choice-default-default
 unfolding join_of
-returns-then-kind-eq-CHOICE c =
+returns-in-Choice-default-default c =
     let w = c.choose.ensures in
-    rw (eq-eqb c.args.kind 8 c.if-kind-eq-CHOICE.true)
-    (record { size = w.size; cells = λ k j h l. w.cells k j (omega arith) (omega arith) })
+    rw c.in-Choice-default-default.is-0 (record { size = w.size; cells = λ k j h l. w.cells k j (omega arith) (omega arith) })
 
-pub returns-then-first-lt-TEST : goal.returns-then-first-lt-TEST
-unfolding join_of
-returns-then-first-lt-TEST c =
-    let a = c.args in
-    rw (ne_eqb a.kind 8 c.if-kind-eq-CHOICE.false)
+pub returns-in_default-Move-default : goal.returns-in_default-Move-default
+returns-in_default-Move-default c =
+    let a = c.args in let here = c.in_default-Move-default in
+    rw (joined_sequence a.kind a.l (at a.s.now) (at a.q.now) here.not-Choice-0)
     (holds_same c.lead_move.ensures (λ k j h l.
     sequence_same a.l _ (at a.s.now) (at a.q.now) (at a.q.now) k j
-    (λ i m. sym (c.requires.2.moves c.if-first-lt-TEST.true k i h m)) (λ i m. refl)))
+    (λ i m. sym (c.requires.0.moves (way_meant here.way) (ap kind_meant here.is-1) k i h m)) (λ i m. refl)))
 
-pub returns-then-next-lt-TEST : goal.returns-then-next-lt-TEST
-unfolding join_of
-returns-then-next-lt-TEST c =
-    let a = c.args in
-    rw (ne_eqb a.kind 8 c.if-kind-eq-CHOICE.false)
+pub returns-in_default-default-Move : goal.returns-in_default-default-Move
+returns-in_default-default-Move c =
+    let a = c.args in let here = c.in_default-default-Move in
+    rw (joined_sequence a.kind a.l (at a.s.now) (at a.q.now) here.not-Choice-0)
     (holds_same c.follow_move.ensures (λ k j h l.
     sequence_same a.l (at a.s.now) (at a.s.now) _ (at a.q.now) k j (λ i m. refl)
-    (λ i m. sym (c.requires.3.moves c.if-next-lt-TEST.true i j m l))))
+    (λ i m. sym (c.requires.1.moves (way_meant here.way) (ap kind_meant here.is-2) i j m l))))
 
-pub returns-else-next-lt-TEST : goal.returns-else-next-lt-TEST
-unfolding join_of
-returns-else-next-lt-TEST c = rw (ne_eqb c.args.kind 8 c.if-kind-eq-CHOICE.false) c.follow.ensures
+pub returns-in_default : goal.returns-in_default
+returns-in_default c =
+    let a = c.args in rw (joined_sequence a.kind a.l (at a.s.now) (at a.q.now) c.in_default.not-Choice-0) c.follow.ensures

@@ -1,17 +1,17 @@
--- Each rule before i holds, and rule i at each instant before k.
-use Rattle.std.proofs.Common.{◌-◌, ◌≤◌}
+-- Each rule before i holds at all its instants, and rule i at each instant before.
+use Rattle.std.proofs.Common.{ℕ, ◌<◌}
 use Rattle.meaning.specs.Run.{cell_of}
-use Rattle.judge.proofs.Scanning.{RulesHold, HeldSoFar}
+use Rattle.meaning.specs.Rule.{rule_at}
+use Rattle.meaning.specs.Judge.{HoldsAt}
+use Rattle.judge.proofs.PlaceStretch.{Stretch}
 use Rattle.judge.proofs.first_failure.Given as goal
 
-abbrev pub invariant-rules : goal.invariant-rules
-invariant-rules l = (l.i ≤ l.n) × RulesHold l.rules l.l (cell_of l.width l.cells) l.i
+abbrev pub invariant-loop-i : goal.invariant-loop-i
+invariant-loop-i l =
+    (q j : ℕ) → q < l.i → j < l.trace.instants → HoldsAt l.rules l.trace.instants (cell_of l.trace.width l.trace.cells.now) q j
 
-abbrev pub decreases-rules : goal.decreases-rules
-decreases-rules l = l.n - l.i
-
-abbrev pub invariant-loop-k : goal.invariant-loop-k
-invariant-loop-k l = HeldSoFar l.rules l.l (cell_of l.width l.cells) l.i l.initial.k l.end l.k
-
-abbrev pub decreases-loop-k : goal.decreases-loop-k
-decreases-loop-k l = l.end - l.k
+abbrev pub invariant-loop-instant : goal.invariant-loop-instant
+invariant-loop-instant l = record {
+  stretch : Stretch l.trace.instants (rule_at l.rules l.i).place l.initial.instant l.instant-end;
+  held : (j : ℕ) → j < l.instant → HoldsAt l.rules l.trace.instants (cell_of l.trace.width l.trace.cells.now) l.i j;
+}

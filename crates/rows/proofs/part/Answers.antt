@@ -1,13 +1,7 @@
--- Each turn writes one more value.
+-- Each turn copies the next value.
 use Rattle.std.proofs.Common.{refl, arith}
-use Rattle.rows.proofs.{Stored.stored_none, Stored.stored_more, ByCell.along_put}
+use Rattle.rows.proofs.Stored.{stored_more}
 use Rattle.rows.proofs.part.Goals as goal
 
-pub loop-j-init : goal.loop-j-init
-loop-j-init c = (omega arith, stored_none)
-
-pub loop-j-preserved : goal.loop-j-preserved
-loop-j-preserved c = (omega arith, stored_more c.loop-j.invariant.1 refl (omega arith) refl (λ i h. omega arith))
-
-pub returns : goal.returns
-returns c = along_put c.loop-j.invariant.1 (omega arith)
+pub loop-i-preserved : goal.loop-i-preserved
+loop-i-preserved c = stored_more c.loop-i.invariant refl (omega arith) refl (λ i h. omega arith)

@@ -10,10 +10,10 @@ use Rattle.spelling.proofs.spell_formula.Goals as goal
 pub spell_record-requires : goal.spell_record-requires
 spell_record-requires c =
     let g = c.requires in
-    let last : c.record_count-last.result - 1 ≡ pred (count c.args.records.now) = omega (arith, c.record_count-last.ensures) in
-    let text : text_at c.args.records.now (c.record_count-last.result - 1) ≡ whole_text c.args.records.now = rw (last, g.formed.last) in
+    let last : c.record_count.result - 1 ≡ pred (count c.args.records.now) = omega (arith, c.record_count.ensures) in
+    let text : text_at c.args.records.now (c.record_count.result - 1) ≡ whole_text c.args.records.now = rw (last, g.formed.last) in
     record {
       whole = g;
-      index = omega (arith, c.record_count-last.ensures, g.formed.some);
+      index = omega (arith, c.record_count.ensures, g.formed.some);
       room = rw text (omega (arith, whole_fits g.formed));
     }

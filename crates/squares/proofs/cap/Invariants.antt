@@ -1,12 +1,8 @@
 -- The rows that were passed are capped, and those ahead are as they were.
-use Rattle.std.proofs.Common.{◌-◌}
 use Rattle.rows.specs.Cells.{at, row_at}
 use Rattle.squares.specs.Places.{capped}
 use Rattle.rows.proofs.Following.{Following}
 use Rattle.squares.proofs.cap.Given as goal
 
 abbrev pub invariant-loop-k : goal.invariant-loop-k
-invariant-loop-k l = Following l.l (capped (row_at l.table l.start) (at l.initial.s)) l.initial.s l.s l.k
-
-abbrev pub decreases-loop-k : goal.decreases-loop-k
-decreases-loop-k l = l.l - l.k
+invariant-loop-k l = Following l.fn.l (capped (row_at l.table l.start) (at l.initial.s)) l.initial.s l.s l.k

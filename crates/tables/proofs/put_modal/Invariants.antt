@@ -1,15 +1,9 @@
 -- The first k cells of the row are the modality's over the row from `from` on.
-use Rattle.std.proofs.Common.{◌-◌, ◌≤◌}
 use Rattle.meaning.specs.Value.{modal_row}
-use Rattle.records.specs.Code.{mode_of}
+use Rattle.records.specs.Kinds.{mode_meant}
 use Rattle.rows.specs.Cells.{at, row_at}
 use Rattle.rows.proofs.ByCell.{Along}
 use Rattle.tables.proofs.put_modal.Given as goal
 
 abbrev pub invariant-loop-k : goal.invariant-loop-k
-invariant-loop-k l =
-    (l.k ≤ l.l)
-    × Along l.start (modal_row (mode_of l.kind) l.l (at l.s) (row_at l.initial.table l.from)) l.initial.table l.table l.k
-
-abbrev pub decreases-loop-k : goal.decreases-loop-k
-decreases-loop-k l = l.l - l.k
+invariant-loop-k l = Along l.start (modal_row (mode_meant l.mode) l.l (at l.s) (row_at l.initial.table l.from)) l.initial.table l.table l.k

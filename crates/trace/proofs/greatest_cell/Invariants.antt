@@ -1,11 +1,8 @@
--- After i turns `most` is the greatest of the first i cells.
-use Rattle.std.proofs.Common.{◌≡◌, ◌-◌, ◌≤◌, length}
+-- After each turn `most` is the greatest of the cells so far.
+use Rattle.std.proofs.Common.{◌≡◌}
 use Rattle.meaning.specs.Three.{greatest}
 use Rattle.trace.proofs.Highest.{nth_cell}
 use Rattle.trace.proofs.greatest_cell.Given as goal
 
-abbrev pub invariant-loop-i : goal.invariant-loop-i
-invariant-loop-i l = (l.i ≤ length l.cells) × (l.most ≡ greatest l.i (nth_cell l.cells))
-
-abbrev pub decreases-loop-i : goal.decreases-loop-i
-decreases-loop-i l = length l.cells - l.i
+abbrev pub invariant-loop-cell : goal.invariant-loop-cell
+invariant-loop-cell l = l.most ≡ greatest l.cell-index (nth_cell l.cells)

@@ -1,37 +1,41 @@
 -- Each test is the next ground of the list, and each `return` gives the first that applies.
-use Rattle.std.proofs.Common.{sym, ◌∙◌, arith}
-use Rattle.shapes.specs.Uses.{language_of}
+use Rattle.std.proofs.Common.{◌≡◌, rules, sym, arith}
+use Rattle.meaning.specs.Refusal.{first_of, value_grounds}
+use Rattle.refusals.specs.Refused.{number_of}
+use Rattle.refusals.proofs.Answered.{positive}
 use Rattle.value.proofs.Grounds.{refused_formula, sized, refused_cells, refused_room, not_refused}
 use Rattle.value.proofs.first_refusal.Goals as goal
 
-pub returns-then-x-ne-ACCEPTED : goal.returns-then-x-ne-ACCEPTED
-unfolding language_of
-returns-then-x-ne-ACCEPTED c =
-    refused_formula _ _ _ _ _ c.wrong_size-wrong_size.ensures c.formula_refusal-x.ensures c.if-x-ne-ACCEPTED.true
+pub returns-in_err-formula_refusal : goal.returns-in_err-formula_refusal
+returns-in_err-formula_refusal c =
+    let why = c.in_err-formula_refusal.field-0.0 in
+    let some = positive why in
+    let found : number_of why ≡ first_of (value_grounds c.args.records.now c.args.atoms c.args.instants c.args.cells.now c.args.room) =
+    refused_formula _ _ _ _ _ c.wrong_size-wrong_size.ensures c.in_err-formula_refusal.ensures (λ e. omega arith) in
+    search rules
 
-pub returns-then-y-ne-ACCEPTED : goal.returns-then-y-ne-ACCEPTED
-unfolding language_of
-returns-then-y-ne-ACCEPTED c =
-    refused_cells _ _ _ _ _ c.wrong_size-wrong_size.ensures (sym c.formula_refusal-x.ensures ∙ c.if-x-ne-ACCEPTED.false)
-    c.cells_refusal-y.ensures c.if-y-ne-ACCEPTED.true
+pub returns-in_err-cells_refusal : goal.returns-in_err-cells_refusal
+returns-in_err-cells_refusal c =
+    let why = c.in_err-cells_refusal.field-0.0 in
+    let some = positive why in
+    let found : number_of why ≡ first_of (value_grounds c.args.records.now c.args.atoms c.args.instants c.args.cells.now c.args.room) =
+    refused_cells _ _ _ _ _ c.wrong_size-wrong_size.ensures (sym c.in_ok-formula_refusal.ensures) c.in_err-cells_refusal.ensures (λ e. omega arith) in
+    search rules
+
+pub new-l-requires : goal.new-l-requires
+new-l-requires c = (sized _ _ _ _ 0 c.wrong_size-wrong_size.ensures (sym c.in_ok-formula_refusal.ensures)).1
 
 pub row_start-requires : goal.row_start-requires
-unfolding language_of
 row_start-requires c =
-    let (few, short) =
-    sized _ _ _ _ 0 c.wrong_size-wrong_size.ensures (sym c.formula_refusal-x.ensures ∙ c.if-x-ne-ACCEPTED.false) in
+    let few = (sized _ _ _ _ 0 c.wrong_size-wrong_size.ensures (sym c.in_ok-formula_refusal.ensures)).0 in
     omega (arith, c.record_count.ensures)
 
 pub returns-then-room-row_start : goal.returns-then-room-row_start
-unfolding language_of
 returns-then-room-row_start c =
-    refused_room _ _ _ _ _ c.wrong_size-wrong_size.ensures (sym c.formula_refusal-x.ensures ∙ c.if-x-ne-ACCEPTED.false)
-    (sym c.cells_refusal-y.ensures ∙ c.if-y-ne-ACCEPTED.false)
-    (rw (c.row_start.ensures, c.record_count.ensures) at c.if-room-row_start.true)
+    refused_room _ _ _ _ _ c.wrong_size-wrong_size.ensures (sym c.in_ok-formula_refusal.ensures) (sym c.in_ok-cells_refusal.ensures)
+    (rw (c.row_start.ensures, c.record_count.ensures, c.new-l.ensures) at c.if-room-row_start.true)
 
 pub returns : goal.returns
-unfolding language_of
 returns c =
-    not_refused _ _ _ _ _ c.wrong_size-wrong_size.ensures (sym c.formula_refusal-x.ensures ∙ c.if-x-ne-ACCEPTED.false)
-    (sym c.cells_refusal-y.ensures ∙ c.if-y-ne-ACCEPTED.false)
-    (rw (c.row_start.ensures, c.record_count.ensures) at c.if-room-row_start.false)
+    not_refused _ _ _ _ _ c.wrong_size-wrong_size.ensures (sym c.in_ok-formula_refusal.ensures) (sym c.in_ok-cells_refusal.ensures)
+    (rw (c.row_start.ensures, c.record_count.ensures, c.new-l.ensures) at c.if-room-row_start.false)

@@ -1,37 +1,33 @@
--- Two rows, a third and a fourth are appended one after another.
-use Rattle.std.proofs.Common.{◌≡◌, arith}
-use Rattle.meaning.specs.Run.{each, tabulate}
-use Rattle.copying.proofs.Appending.{append_length, append_more}
+-- Each row follows those before.
+use Rattle.std.proofs.Common.{◌≡◌, ◌+◌, min, arith}
+use Rattle.copying.proofs.Appending.{append_more}
+use Rattle.writing.proofs.Rowing.{row_more}
 use Rattle.writing.proofs.put_rows.Goals as goal
+use Rattle.writing.proofs.put_rows.Goals.{then-i-count, else-i-count}
 
-pub put_row-two-requires : goal.put_row-two-requires
-unfolding each tabulate
-put_row-two-requires c = omega (arith, append_length c.put_row-one.ensures, c.put_row-one.ensures.place)
+pub append-end-requires : goal.append-end-requires
+append-end-requires c =
+    let size = c.told-rows c.loop-i.i c.loop-i-test.true in
+    omega arith
 
-pub returns-then-count-eq2 : goal.returns-then-count-eq2
-unfolding each tabulate
-returns-then-count-eq2 c = rw c.if-count-eq2.true (append_more c.put_row-one.ensures c.put_row-two.ensures)
-
-pub put_row-three-requires : goal.put_row-three-requires
-unfolding each tabulate
-put_row-three-requires c =
-    let two = append_more c.put_row-one.ensures c.put_row-two.ensures in
-    omega (arith, append_length two, two.place)
-
-pub returns-then-count-eq3 : goal.returns-then-count-eq3
-unfolding each tabulate
-returns-then-count-eq3 c =
-    rw c.if-count-eq3.true (append_more (append_more c.put_row-one.ensures c.put_row-two.ensures) c.put_row-three.ensures)
-
-pub put_row-requires : goal.put_row-requires
-unfolding each tabulate
-put_row-requires c =
-    let three = append_more (append_more c.put_row-one.ensures c.put_row-two.ensures) c.put_row-three.ensures in
-    omega (arith, append_length three, three.place)
+pub loop-i-preserved : goal.loop-i-preserved
+loop-i-preserved c = elim c.if-i-count.branch [
+  | then-i-count w ↦
+      let size = c.told-rows c.loop-i.i c.loop-i-test.true in
+      let some : min (c.loop-i.i + 1) c.args.count ≡ c.loop-i.i + 1 = omega arith in
+      let none : min c.loop-i.i c.args.count ≡ c.loop-i.i = omega arith in
+      record {
+        here = rw w.end-is (omega (arith, w.append-end.ensures.place));
+        stored =
+            rw (some, w.end-is, w.out-is, row_more c.args.rows.now c.loop-i.i c.loop-i-test.true)
+            (append_more (rw none at c.loop-i.invariant.stored) w.append-end.ensures);
+      }
+  | else-i-count w ↦
+      let same : min (c.loop-i.i + 1) c.args.count ≡ min c.loop-i.i c.args.count = omega arith in
+      record { here = rw (w.end-is, same) c.loop-i.invariant.here; stored = rw (w.end-is, w.out-is, same) c.loop-i.invariant.stored }
+]
 
 pub returns : goal.returns
-unfolding each tabulate
 returns c =
-    let four : c.args.count ≡ 4 = omega arith in
-    rw four
-    (append_more (append_more (append_more c.put_row-one.ensures c.put_row-two.ensures) c.put_row-three.ensures) c.put_row.ensures)
+    let all : min c.loop-i.i c.args.count ≡ c.args.count = omega arith in
+    rw all at c.loop-i.invariant.stored

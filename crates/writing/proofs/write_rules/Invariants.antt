@@ -1,12 +1,8 @@
 -- After r records their rules stand at the front.
-use Rattle.std.proofs.Common.{◌-◌, ◌≤◌}
 use Rattle.meaning.specs.Run.{each}
 use Rattle.copying.specs.Appended.{Appended}
 use Rattle.writing.proofs.Rowing.{words_at}
 use Rattle.writing.proofs.write_rules.Given as goal
 
 abbrev pub invariant-loop-r : goal.invariant-loop-r
-invariant-loop-r l = (l.r ≤ l.n) × Appended l.initial.out 0 (each l.r (words_at l.records l.atoms)) l.at l.out
-
-abbrev pub decreases-loop-r : goal.decreases-loop-r
-decreases-loop-r l = l.n - l.r
+invariant-loop-r l = Appended l.initial.out 0 (each l.r (words_at l.records l.atoms)) l.at l.out

@@ -2,14 +2,14 @@
 use Rattle.std.proofs.Common.{◌≡◌, sym, ◌∙◌, arith}
 use borrow.Author.Tests.{eq-eqb, ne_eqb}
 use Rattle.meaning.specs.Record.{kind_at, known}
-use Rattle.shapes.specs.Uses.{language_of}
+use Rattle.shapes.specs.Uses.{language_meant}
 use Rattle.checks.proofs.Order.{by_record}
 use Rattle.checks.proofs.refusal.record_refusal.Goals as goal
 use Rattle.checks.proofs.refusal.record_refusal.Goals.{After-takes}
 
 -- The question is whether the record's kind is one of the language.
-asked : (c : After-takes) → known (language_of c.args.language) (kind_at c.args.s.now c.args.r) ≡ c.takes.result
-asked c = rw (c.takes.ensures, c.kind_at-kind.ensures)
+asked : (c : After-takes) → known (language_meant c.args.language) (kind_at c.args.s.now c.args.r) ≡ c.takes.result
+asked c = rw (c.takes.ensures, c.kind_of-kind.ensures)
 
 pub returns-then-not-takes : goal.returns-then-not-takes
 returns-then-not-takes c = record {

@@ -10,8 +10,6 @@ decreases-write_step l = 2 * l.r
 abbrev pub decreases-write_tree : goal.decreases-write_tree
 decreases-write_tree l = 2 * l.r + 1
 
-abbrev pub invariant-write_tree-loop-rest : goal.invariant-write_tree-loop-rest
-invariant-write_tree-loop-rest l = Going l.records l.r l.from l.initial.buffer l.rest l.under l.n l.buffer
-
-abbrev pub decreases-write_tree-loop-rest : goal.decreases-write_tree-loop-rest
-decreases-write_tree-loop-rest l = l.rest
+abbrev pub invariant-write_tree-loop-step : goal.invariant-write_tree-loop-step
+invariant-write_tree-loop-step l =
+    Going l.records l.r l.from l.initial.buffer l.step-items l.step-index l.under l.n l.buffer

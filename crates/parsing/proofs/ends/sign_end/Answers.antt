@@ -1,13 +1,13 @@
--- Each byte of the sign ends where the byte after it begins.
-use Rattle.std.proofs.Common.{arith}
-use Rattle.parsing.proofs.Places.{ends_nothing, sign_more, sign_done}
+-- Whether the text starts with the sign there.
+use Rattle.std.proofs.Common.{arith, refl, length-drop}
+use Rattle.std.proofs.lemmas.List.{take_rest}
+use Rattle.parsing.proofs.Places.{sign_there, sign_absent}
 use Rattle.parsing.proofs.ends.sign_end.Goals as goal
 
-pub loop-i-init : goal.loop-i-init
-loop-i-init c = (omega arith, ends_nothing _ _ c.requires.1)
+pub returns-then-starts_with : goal.returns-then-starts_with
+returns-then-starts_with c =
+    let l = c.if-starts_with.ensures.bound refl in
+    sign_there _ _ _ c.starts_with.ensures.value c.if-starts_with.true (omega (arith, l, rw (take_rest, length-drop) at l))
 
-pub loop-i-preserved : goal.loop-i-preserved
-loop-i-preserved c = (omega arith, sign_more _ _ _ _ c.loop-i-test.true c.loop-i.invariant.1 c.byte_end-e.ensures)
-
-pub returns : goal.returns
-returns c = sign_done _ _ _ c.loop-i-test.false c.loop-i.invariant.1
+pub returns-else-starts_with : goal.returns-else-starts_with
+returns-else-starts_with c = sign_absent _ _ _ c.starts_with.ensures.value c.if-starts_with.false

@@ -1,6 +1,6 @@
 -- The buffer begins with the text, which is copied where there is room.
 use Rattle.std.proofs.Common.{arith}
-use lib.ListN.{replicate}
+use Rattle.std.proofs.Common.{replicate}
 use Rattle.meaning.specs.Text.{whole_text, most_text}
 use Rattle.meaning.proofs.Lengths.{whole_fits}
 use Rattle.text.proofs.Storing.{sized_refused, sized_stored}

@@ -1,56 +1,40 @@
 -- Both parts of a sequence are earlier records, and the loop goes on with one of them if the other is a test.
-use Rattle.std.proofs.Common.{◌<◌, sym, ◌∙◌, arith}
+use Rattle.std.proofs.Common.{◌<◌, sym, arith}
 use Rattle.valuing.specs.Valuing.{Moves}
-use Rattle.valuing.proofs.Moved.{first_earlier, second_earlier, moves_tested, moves_testing}
-use Rattle.valuing.proofs.formula.one_way.Goals.{After-field_b-b, then-kind_at-eq-TEST, else-kind_at-eq-TEST+then-kind_at-eq-TEST-2}
+use Rattle.valuing.proofs.Moved.{parts_earlier, moves_tested, moves_testing}
+use Rattle.valuing.proofs.formula.one_way.Goals.{After-field_b-b}
 use Rattle.valuing.proofs.formula.one_way.Goals as goal
 
-earlier : (c : After-field_b-b) → (c.field_a-a.result < c.loop-kind.q) × (c.field_b-b.result < c.loop-kind.q)
-earlier c =
-    let inv = c.loop-kind.invariant in
-    let nine = sym inv.1 ∙ c.loop-kind-test.true in
-    (first_earlier c.requires.0.1 inv.0 nine c.field_a-a.ensures, second_earlier c.requires.0.1 inv.0 nine c.field_b-b.ensures)
+earlier : (c : After-field_b-b) → (c.field_a-a.result < c.loop-way.q) × (c.field_b-b.result < c.loop-way.q)
+earlier c = parts_earlier c.requires.0.1 c.loop-way.invariant.index c.in-Sequence.ensures c.field_a-a.ensures c.field_b-b.ensures
 
-pub kind_at-requires : goal.kind_at-requires
-kind_at-requires c = omega (arith, (earlier (goal.at.kind_at-requires c).After-field_b-b).0, c.loop-kind.invariant.0)
+pub returns-in-Move : goal.returns-in-Move
+returns-in-Move c = c.loop-way.invariant.leads _ (Moves.itself (sym c.in-Move.ensures))
 
-pub kind_at-requires-else-kind_at-eq-TEST : goal.kind_at-requires-else-kind_at-eq-TEST
-kind_at-requires-else-kind_at-eq-TEST c =
-    omega (arith, (earlier (goal.at.kind_at-requires-else-kind_at-eq-TEST c).After-field_b-b).1, c.loop-kind.invariant.0)
+pub is_test-requires : goal.is_test-requires
+is_test-requires c = omega (arith, (earlier (goal.at.is_test-requires c).After-field_b-b).0, c.loop-way.invariant.index)
 
-pub kind_at-kind-requires-in-loop-kind : goal.kind_at-kind-requires-in-loop-kind
-kind_at-kind-requires-in-loop-kind c =
-    let (a, b) = earlier (goal.at.kind_at-kind-requires-in-loop-kind c).After-field_b-b in
-    elim c.if-kind_at-eq-TEST.branch [
-      | then-kind_at-eq-TEST w ↦ omega arith
-      | else-kind_at-eq-TEST+then-kind_at-eq-TEST-2 w ↦ omega arith
-    ]
+pub is_test-requires-else-is_test : goal.is_test-requires-else-is_test
+is_test-requires-else-is_test c =
+    omega (arith, (earlier (goal.at.is_test-requires-else-is_test c).After-field_b-b).1, c.loop-way.invariant.index)
 
-pub loop-kind-smaller : goal.loop-kind-smaller
-loop-kind-smaller c =
-    let (a, b) = earlier (goal.at.loop-kind-smaller c).After-field_b-b in
-    elim c.if-kind_at-eq-TEST.branch [
-      | then-kind_at-eq-TEST w ↦ omega arith
-      | else-kind_at-eq-TEST+then-kind_at-eq-TEST-2 w ↦ omega arith
-    ]
+pub loop-way-smaller-then-is_test : goal.loop-way-smaller-then-is_test
+loop-way-smaller-then-is_test c = (earlier (goal.at.loop-way-smaller-then-is_test c).After-field_b-b).1
 
-pub loop-kind-preserved : goal.loop-kind-preserved
-loop-kind-preserved c =
-    let inv = c.loop-kind.invariant in
-    let fa = c.field_a-a.ensures in let fb = c.field_b-b.ensures in
-    let nine = sym inv.1 ∙ c.loop-kind-test.true in
-    let (a, b) = earlier (goal.at.loop-kind-preserved c).After-field_b-b in (
-      elim c.if-kind_at-eq-TEST.branch [
-        | then-kind_at-eq-TEST w ↦ omega arith
-        | else-kind_at-eq-TEST+then-kind_at-eq-TEST-2 w ↦ omega arith
-      ],
-      c.kind_at-kind-in-loop-kind.ensures,
-      λ n m. inv.2 n (elim c.if-kind_at-eq-TEST.branch [
-        | then-kind_at-eq-TEST w ↦ moves_tested nine fa fb c.kind_at.ensures w.if-kind_at-eq-TEST.true w.q-is m
-        | else-kind_at-eq-TEST+then-kind_at-eq-TEST-2 w ↦
-            moves_testing nine fa fb w.kind_at-else-kind_at-eq-TEST.ensures w.if-kind_at-eq-TEST-2.true w.q-is m
-      ]),
-    )
+pub loop-way-smaller : goal.loop-way-smaller
+loop-way-smaller c = (earlier (goal.at.loop-way-smaller c).After-field_b-b).0
 
-pub returns : goal.returns
-returns c h = let inv = c.loop-kind.invariant in inv.2 _ (Moves.itself (sym inv.1))
+pub loop-way-preserved-then-is_test : goal.loop-way-preserved-then-is_test
+loop-way-preserved-then-is_test c = record {
+  index = omega (arith, (earlier (goal.at.loop-way-preserved-then-is_test c).After-field_b-b).1, c.loop-way.invariant.index);
+  leads = λ w m. c.loop-way.invariant.leads w
+      (moves_tested c.in-Sequence.ensures c.field_a-a.ensures c.field_b-b.ensures (c.is_test.ensures.0 c.if-is_test.true) m);
+}
+
+pub loop-way-preserved : goal.loop-way-preserved
+loop-way-preserved c = record {
+  index = omega (arith, (earlier (goal.at.loop-way-preserved c).After-field_b-b).0, c.loop-way.invariant.index);
+  leads = λ w m. c.loop-way.invariant.leads w
+      (moves_testing c.in-Sequence.ensures c.field_a-a.ensures c.field_b-b.ensures
+      (c.is_test-else-is_test.ensures.0 c.if-is_test-2.true) m);
+}
