@@ -103,6 +103,7 @@ fn first_refusal(rules: &[u16], width: u64, instants: u64, cells: &[u8]) -> Resu
     if trace::wrong_size(trace::MOST_COLUMNS, width, instants, cells) {
         return Err(Refusal::WrongSize);
     }
+    // `usize` has no `From<u64>`.
     form::rules_refusal(rules, width as usize)?;
     trace::cells_refusal(cells)
 }

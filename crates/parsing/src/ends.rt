@@ -31,7 +31,7 @@ fn either_end(text: &[u8], at: usize, this: &[u8], other: &[u8]) -> Option<usize
 }
 
 // ---- an atom's number
-// From 0 to 9.
+// From 0 to 9, by the definition's tests: `is_ascii_digit` would first be proved to be these.
 #[tactic(auto, unfolding(meaning::specs::Text::digit))]
 fn is_digit(b: u8) -> bool
     ensures { result ≡ digit b }

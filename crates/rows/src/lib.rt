@@ -68,7 +68,7 @@ pub fn part(s: &Square, from: usize, to: usize, n: usize) -> Row
     row
 }
 
-// Row k.
+// Row k. That k is an instant is a fact of each call, here and where a row is put.
 pub fn row_of(s: &Square, k: usize) -> Row
     requires { k < width }
     ensures { Values (at s.now k) result }

@@ -52,7 +52,7 @@ fn join_rows(mode: Mode, x: u16, u: u16, v: u16) -> Rows
     }
 }
 
-// x is c after the test of a.
+// x is c after the test of a: other rules than a join's, so another table.
 #[tactic(auto, unfolding(meaning::specs::Translation::test_rules))]
 fn test_rows(mode: Mode, x: u16, a: u16, c: u16) -> Rows
     requires { Small a × Small c }

@@ -44,7 +44,7 @@ pub fn use_a(kind: Kind) -> Use
     }
 }
 
-// What field b holds.
+// What field b holds: another column of the specification's table than field a's.
 #[tactic(auto, unfolding(meaning::specs::Record::columns_of, meaning::specs::Record::arguments_of))]
 pub fn use_b(kind: Kind) -> Use
     ensures { use_meant result ≡ use_b (kind_meant kind) }

@@ -51,6 +51,7 @@ pub fn test_square(table: &[u8], start: usize, l: Instants) -> Square
 }
 
 // ---- a test before a path
+// The loop is as those of `joining`, with a row of its own; the table is C's, so its row is told by its place.
 // The square of a path becomes that of a sequence: the test of the formula whose row starts at `start`, then the path. A row of zeros raised by
 // row k is row k, but no more than the tested value.
 pub fn cap(s: &mut Square, table: &[u8], start: usize, l: Instants)

@@ -54,7 +54,7 @@ fn read_formula(text: &[u8], n: usize, atoms: u64, out: &mut [u8]) -> Result<usi
     Ok(n)
 }
 
-// Of the first n records 5, and 10.
+// Of the first n records 5, and 10. The number goes beside the buffer, which has room for more.
 fn records_refusal(records: &[u8], n: usize, atoms: u64, room: usize) -> Result<(), Refusal>
     requires { (n ≤ count records.now) × (n ≤ most_records) }
     ensures { refused result ≡ first_of (records_grounds records.now n atoms room) }
@@ -66,7 +66,7 @@ fn records_refusal(records: &[u8], n: usize, atoms: u64, room: usize) -> Result<
     Ok(())
 }
 
-// 5: an atom that there isn't.
+// 5: an atom that there isn't. A loop, and not `try_for_each` with one for all scans: each scan's invariant names what it passed.
 fn atoms_refusal(records: &[u8], n: usize, atoms: u64) -> Result<(), Refusal>
     requires { n ≤ count records.now }
     ensures { refused result ≡ first_of (atom_grounds records.now n atoms) }
