@@ -36,6 +36,14 @@ def public_functions():
                         parts = place + [block[1], found[1]]
                         yield "::".join(parts), parts, found[2]
 
+def field_of(parts, alias):
+    """The outcome's name in OneOutcome: what the innermost module used there is called, and the path from it."""
+    for end in range(len(parts) - 1, 0, -1):
+        module = ".".join([parts[0], "proofs"] + parts[1:end])
+        if module in alias:
+            return ".".join([alias[module]] + parts[end:]) + ".Reads.Post"
+    return "?"
+
 def contracts(crate):
     """Each public function of a crate's lib.rt with its parameters and clauses, however they are laid out."""
     found = FUNCTION.findall((ROOT / "crates" / crate / "src/lib.rt").read_text())
@@ -48,9 +56,7 @@ def main():
     faults, count = [], 0
     for path, parts, contract in public_functions():
         count += 1
-        places = [".".join([parts[0], "proofs"] + parts[1:end]) for end in range(len(parts) - 1, 0, -1)]
-        where = next((place for place in places if place in alias), "?")
-        field = ".".join([alias.get(where, "?")] + parts[len(parts) - 1 - places.index(where) :] if where in alias else ["?"]) + ".Reads.Post"
+        field = field_of(parts, alias)
         if path not in NO_OUTCOME and not re.search(rf"(?<![\w.]){re.escape(field)}(?![\w.])", outcomes):
             faults.append(f"{path} has no field in OneOutcome")
         named = parts[-1] if parts[0] == "pasturequill" else path
