@@ -4,17 +4,18 @@
 mod ends;
 mod write;
 
-ghost use Rattle.std.specs.Prelude.{◌≡◌, true, ◌≤◌};
+ghost use Rattle.std.specs.Prelude.{◌≡◌, true, ◌≤◌, length};
 ghost use Rattle.std.proofs.lemmas.List.Edits.{sets};
-ghost use Rattle.meaning.specs.Text.{read, is_read, form_in};
+ghost use Rattle.meaning.specs.Text.{most_text, read, is_read, form_in};
 ghost use Rattle.meaning.specs.Record.{most_records};
 ghost use Rattle.meaning.specs.Tree.{form_size, postorder};
 
 use records::layout;
 
-// Whether all of the text is a formula.
+// Whether all of the text is a formula. It takes a level of the stack for each bracket, so the text may not be longer than any formula's.
 #[tactic(auto, using(crate::proofs::Whole::formula_read))]
 pub fn is_formula(text: &[u8]) -> bool
+    requires { length text.now ≤ most_text }
     ensures { result ≡ is_read (read text.now) }
 {
     ends::form_end(text, 0) == Some(text.len())
