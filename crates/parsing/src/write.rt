@@ -132,8 +132,10 @@ fn push_stars(writer: &mut Writer, stars: usize)
     requires { (0 < writer.old.next) × (writer.old.next + stars ≤ most_records) }
     ensures { Stored writer.old stars (stars_from stars writer.old.next) writer.new }
 {
-    for _ in 0..stars {
-        let inner = writer.next - 1;
-        writer.push(Kind::Star, inner, 0);
+    // The number of the next is set once: in each turn, it would be stored and read back.
+    let first = writer.next;
+    for i in 0..stars {
+        layout::put_record(writer.buffer, first + i, Kind::Star.into(), first + i - 1, 0);
     }
+    writer.next += stars;
 }

@@ -1,12 +1,16 @@
 -- Each star is one record more.
-use Rattle.std.proofs.Common.{refl, arith}
+use Rattle.std.proofs.Common.{refl}
+use Rattle.meaning.specs.Record.{number_of}
 use Rattle.parsing.specs.Writing.{stars_from}
 use Rattle.parsing.proofs.Stars.{stars_more}
 use Rattle.parsing.proofs.write.push_stars.Goals as goal
 
-pub loop-init : goal.loop-init
+pub loop-i-init : goal.loop-i-init
 unfolding stars_from
-loop-init c = (omega arith, refl, refl)
+loop-i-init c = (refl, refl, refl)
 
-pub loop-preserved : goal.loop-preserved
-loop-preserved c = (omega (arith, c.loop.invariant.0, c.push.ensures.0), stars_more _ _ _ _ c.loop.invariant.0 c.loop.invariant.1 c.push.ensures.1, cc)
+pub loop-i-preserved : goal.loop-i-preserved
+unfolding number_of
+loop-i-preserved c =
+    let (same, before, lent) = c.loop-i.invariant in
+    (same, stars_more _ _ _ _ refl before (rw c.into.ensures at c.put_record.ensures), lent)
