@@ -1,7 +1,7 @@
 -- The contexts of all paths. The parent of a path is a path of which it is a part, or a modality whose path it is, and
 -- parents are later: so every path is under a modality's. Once all under each modality's path is entered, every path is.
 use Prim.Native.Nat.{ℕ, zero, suc, ◌+◌, ◌*◌, ◌<◌, ◌≤◌}
-use mathlib.Core.Path.{◌≡◌, refl, sym, ◌∙◌}
+use mathlib.Core.Path.{◌≡◌, refl, sym, ap, ◌∙◌}
 use mathlib.Core.Bool.{true}
 use mathlib.Core.Logic.{inl, inr}
 use mathlib.Core.List.{List, [], ◌∷◌}
@@ -13,7 +13,7 @@ use Rattle.meaning.specs.Record.{core, Kind, Mode, modal, known, most_records, r
 use Rattle.meaning.specs.Record.{child, use_a, use_b, parent, columns_of}
 use Rattle.meaning.specs.{WellFormed.WellFormed, Translation.context}
 use Rattle.meaning.proofs.{Bounds.le_or_lt, Runs.length_each, Runs.get_d_each, Nodes.either_sort, Nodes.differs, Cases.by_kind}
-use Rattle.meaning.proofs.{Parents.used_in, Parents.has_parent, Parents.child_earlier, Climbing.path_before}
+use Rattle.meaning.proofs.{Parents.used_in, Parents.has_parent, Parents.child_earlier, Climbing.path_before, Climbing.continuation_record}
 use Rattle.records.specs.Kinds.{kind_meant}
 use Rattle.records.specs.declared.kind.Mode as mode
 use Rattle.records.specs.declared.kind.Kind as kind
@@ -36,6 +36,14 @@ unfolding known columns_of
 none_second =
     by_kind _ (λ v k e c. cc) (λ k e c. cc) (λ m k e c. cc) (λ w k e c. cc) (λ k e c. cc) (λ k e c. cc) (λ k e c. cc) (λ k e c. cc)
     (λ σ k e c. cc) (λ k e c. cc)
+
+-- ---- a path's entry is no formula's
+pub told_apart : {s : List ℕ} → Formed s → (r : ℕ) → r < count s → sort_of (kind_at s r) ≡ path → held (context s r) ≡ no_context → ⊥
+told_apart {s} f r l e h =
+    let w = f.formed in
+    let less = continuation_record w r (path_before w r l e) in
+    let same : (context s r).continuation ≡ most_records = ap (λ (u : Context). u.continuation) h in
+    absurd (omega (arith, less, same, w.few))
 
 -- ---- record after record
 -- Only the code's modality is one.

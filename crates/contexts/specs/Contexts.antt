@@ -1,7 +1,7 @@
 -- Contexts in an array.
 --   mode_named m             the code's mode for the definitions'
 --   held u                   the code's context for the definitions' context u
---   no_context               what stands at a formula
+--   no_context               what stands at a formula, and at no path: no record has its continuation's number
 --   contexts_of s            an entry for each record: a path's context, no_context for a formula
 --   Entered s contexts r     the array has record r's entry
 --   PathUnder s p r          the path record r is p or a part of p, with no test in between
@@ -26,7 +26,7 @@ abbrev pub held : spec_translation.Context → Context
 held u = record { mode = mode_named u.mode; continuation = u.continuation }
 
 abbrev pub no_context : Context
-no_context = record { mode = Diamond; continuation = 0 }
+no_context = record { mode = Diamond; continuation = most_records }
 
 unfoldable pub entry_by : Sort → Context → Context
 entry_by formula u = no_context

@@ -17,10 +17,11 @@ pub struct Context {
 }
 
 impl Context {
-    // A formula stands under nothing, and has this. It is no `Option`, since nobody reads a formula's: each reader would ask again what the kind says.
+    // A formula stands under nothing, and has this: no record has the number of its continuation, so no path has it. It is no `Option`, since
+    // nobody reads a formula's: each reader would ask again what the kind says.
     pub const NONE: Context = Context {
         mode: Mode::Diamond,
-        continuation: 0,
+        continuation: layout::MOST_RECORDS as u8,
     };
 
     // Its modality's mode.
@@ -46,6 +47,22 @@ impl Context {
         Context {
             mode,
             continuation: c as u8,
+        }
+    }
+}
+
+// By a word of two bytes: the number of the modality's kind in the high one, the continuation in the low one.
+impl From<u16> for Context {
+    ghost use Rattle.std.specs.Prelude.{◌≡◌, ◌/◌, ◌%◌};
+    ghost use Rattle.records.specs.Kinds.{mode_meant};
+    ghost use Rattle.records.specs.Code.{mode_of};
+
+    ghost from_gives = { λ word context. (mode_meant context.mode ≡ mode_of (word / 256)) × (context.continuation ≡ word % 256) };
+
+    fn from(word: u16) -> Context {
+        Context {
+            mode: Mode::from((word / 256) as u8),
+            continuation: (word % 256) as u8,
         }
     }
 }

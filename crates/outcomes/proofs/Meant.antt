@@ -1,4 +1,4 @@
--- What a kind, a use or a sort of the code means tells which it is.
+-- What a kind, a use, a sort or a language of the code means tells which it is.
 use Rattle.std.proofs.Common.{◌≡◌, refl, sym, ap, ◌∙◌}
 use Rattle.meaning.specs.Record as spec
 use Rattle.records.specs.declared.kind.Mode as mode
@@ -8,7 +8,8 @@ use Rattle.records.specs.declared.kind.Kind as kind
 use Rattle.records.specs.Kinds.{mode_meant, way_meant, shorthand_meant, kind_meant}
 use Rattle.shapes.specs.declared.Sort as sort
 use Rattle.shapes.specs.declared.Use as held
-use Rattle.shapes.specs.Uses.{sort_meant, use_meant}
+use Rattle.shapes.specs.declared.Language as language
+use Rattle.shapes.specs.Uses.{sort_meant, use_meant, language_meant}
 
 mode_named : spec.Mode → mode.Mode
 mode_named spec.diamond = mode.TheVariants.Diamond
@@ -46,10 +47,16 @@ unfolding mode_named
 mode_again mode.TheVariants.Diamond = refl
 mode_again mode.TheVariants.Box = refl
 
+pub one_mode : (x y : mode.Mode) → mode_meant x ≡ mode_meant y → x ≡ y
+one_mode x y e = sym (mode_again x) ∙ ap mode_named e ∙ mode_again y
+
 way_again : (w : way.Way) → way_named (way_meant w) ≡ w
 unfolding way_named
 way_again way.TheVariants.Ahead = refl
 way_again way.TheVariants.Back = refl
+
+pub one_way : (x y : way.Way) → way_meant x ≡ way_meant y → x ≡ y
+one_way x y e = sym (way_again x) ∙ ap way_named e ∙ way_again y
 
 shorthand_again : (s : shorthand.Shorthand) → shorthand_named (shorthand_meant s) ≡ s
 unfolding shorthand_named
@@ -105,3 +112,16 @@ one_sort x y e = sym (sort_again x) ∙ ap sort_named e ∙ sort_again y
 
 pub one_use : (x y : held.Use) → use_meant x ≡ use_meant y → x ≡ y
 one_use x y e = sym (use_again x) ∙ ap use_named e ∙ use_again y
+
+-- ---- languages
+language_named : spec.Language → language.Language
+language_named spec.core = language.TheVariants.Core
+language_named spec.full = language.TheVariants.Full
+
+language_again : (l : language.Language) → language_named (language_meant l) ≡ l
+unfolding language_named
+language_again language.TheVariants.Core = refl
+language_again language.TheVariants.Full = refl
+
+pub one_language : (x y : language.Language) → language_meant x ≡ language_meant y → x ≡ y
+one_language x y e = sym (language_again x) ∙ ap language_named e ∙ language_again y

@@ -22,7 +22,7 @@ use Rattle.judge.proofs as judge
 use Rattle.text.proofs.writing as writes
 use Rattle.text.proofs.reading as reads
 use Rattle.pasturequill.proofs as door
-use Rattle.outcomes.proofs.Meant.{one_kind, one_use, one_sort}
+use Rattle.outcomes.proofs.Meant.{one_mode, one_way, one_kind, one_language, one_use, one_sort}
 use Rattle.outcomes.specs.OneOutcome.{OneFits, OneOutcome}
 
 -- ---- two that equal a third
@@ -135,7 +135,13 @@ one_outcome = record {
   imp = λ κs a o u. alone;
   negation = λ κs a o u. alone;
   number = λ κs a o u. alone;
+  byte_of_refusal = λ κs a o u. alone;
+  counted_of_result = λ κs a o u p q. λ i. (record { refusal = same p.0 q.0 i; count = same p.1 q.1 i }, o.1);
   record_count = λ κs a o u. alone;
+  kind_of_byte = λ κs a o u p q. λ i. (one_kind o.0 u.0 (same p q) i, o.1);
+  byte_of_kind = λ κs a o u. alone;
+  mode_of_byte = λ κs a o u p q. λ i. (one_mode o.0 u.0 (same p q) i, o.1);
+  way_of_byte = λ κs a o u p q. λ i. (one_way o.0 u.0 (same p q) i, o.1);
   kind_at = λ κs a o u. alone;
   kind_of = λ κs a o u p q. λ i. (one_kind o.0 u.0 (same p q) i, o.1);
   field_a = λ κs a o u. alone;
@@ -145,6 +151,7 @@ one_outcome = record {
   use_a = λ κs a o u p q. λ i. (one_use o.0 u.0 (same p q) i, o.1);
   use_b = λ κs a o u p q. λ i. (one_use o.0 u.0 (same p q) i, o.1);
   sort_of = λ κs a o u p q. λ i. (one_sort o.0 u.0 (same p q) i, o.1);
+  language_of_byte = λ κs a o u p q. λ i. (one_language o.0 u.0 (same p q) i, o.1);
   takes = λ κs a o u. alone;
   copy = λ κs a o u p q. λ i. (o.0, (tt, (tt, (same p q i, tt))));
   append = λ T laws copies clone code κs a o u p q. λ i. (same p.place q.place i, (same p.whole q.whole i, (tt, (tt, tt))));
@@ -152,6 +159,10 @@ one_outcome = record {
   check = λ κs a o u. answered;
   stars_refusal = λ κs a o u. answered;
   find_contexts = λ κs a o u p q. λ i. (o.0, (tt, (same p q i, tt)));
+  context_of_word = λ κs a o u p q. λ i. (
+    record { mode = one_mode o.0.mode u.0.mode (same p.0 q.0) i; continuation = same p.1 q.1 i },
+    o.1,
+  );
   mode = λ κs a o u. alone;
   continuation = λ κs a o u p q. λ i. (same p.0 q.0 i, o.1);
   rows_of = λ κs a o u. alone;
@@ -185,6 +196,11 @@ one_outcome = record {
   spell_formula = λ κs a o u p q. λ i. (same p.0 q.0 i, (tt, (same p.1 q.1 i, tt)));
   expand = expanded;
   value = valued;
+  valued_of_result = λ κs a o u p q. λ i. (record { refusal = same p.0 q.0 i; value = same p.1 q.1 i }, o.1);
+  judged_of_result = λ κs a o u p q. λ i. (
+    record { refusal = same p.0 q.0 i; holds = same p.1 q.1 i; rule = same p.2 q.2 i; instant = same p.3 q.3 i },
+    o.1,
+  );
   judge = judged;
   translate = translated;
   write_text = wrote;

@@ -6,7 +6,7 @@
 --   Fits ps r Post κs a o    the outcome o at the arguments a meets the contract
 --   OneFits ps r Post        two outcomes at the same arguments that both meet it are equal
 --   OneSquare ps r Post L s  two that both meet it have the same square s over L instants
---   OneOutcome               so it is for each function that another crate can call; what a C program calls has the same contracts
+--   OneOutcome               so it is for each function and conversion that another crate can call; what a C program calls has the same contracts
 -- But for `listing::run`, which reads and writes streams: no contract can say what comes in or goes out.
 use Rattle.std.specs.Prelude.{ℕ, ◌<◌, ◌≡◌, List}
 use contract.Lifetimes.{Lfts}
@@ -18,6 +18,7 @@ use mir.Syntax.{Dict}
 use Rattle.std.specs.declared.clone.Clone.{Ghosts}
 use Rattle.three.proofs as three
 use Rattle.refusals.proofs as refusals
+use Rattle.records.proofs.kind as kinds
 use Rattle.records.proofs.layout as layout
 use Rattle.shapes.proofs as shapes
 use Rattle.copying.proofs as copying
@@ -71,7 +72,15 @@ pub record OneOutcome : Type 2 where
   pub negation : OneFits three.negation.Kinds.ps three.negation.Kinds.r three.negation.Reads.Post
   -- refusals
   pub number : OneFits refusals.number.Kinds.ps refusals.number.Kinds.r refusals.number.Reads.Post
+  pub byte_of_refusal :
+      OneFits refusals.U8FromRefusal.from.Kinds.ps refusals.U8FromRefusal.from.Kinds.r refusals.U8FromRefusal.from.Reads.Post
+  pub counted_of_result :
+      OneFits refusals.CountedFromResultUsizeRefusal.from.Kinds.ps refusals.CountedFromResultUsizeRefusal.from.Kinds.r refusals.CountedFromResultUsizeRefusal.from.Reads.Post
   -- records
+  pub kind_of_byte : OneFits kinds.KindFromU8.from.Kinds.ps kinds.KindFromU8.from.Kinds.r kinds.KindFromU8.from.Reads.Post
+  pub byte_of_kind : OneFits kinds.U8FromKind.from.Kinds.ps kinds.U8FromKind.from.Kinds.r kinds.U8FromKind.from.Reads.Post
+  pub mode_of_byte : OneFits kinds.ModeFromU8.from.Kinds.ps kinds.ModeFromU8.from.Kinds.r kinds.ModeFromU8.from.Reads.Post
+  pub way_of_byte : OneFits kinds.WayFromU8.from.Kinds.ps kinds.WayFromU8.from.Kinds.r kinds.WayFromU8.from.Reads.Post
   pub record_count : OneFits layout.record_count.Kinds.ps layout.record_count.Kinds.r layout.record_count.Reads.Post
   pub kind_at : OneFits layout.kind_at.Kinds.ps layout.kind_at.Kinds.r layout.kind_at.Reads.Post
   pub kind_of : OneFits layout.kind_of.Kinds.ps layout.kind_of.Kinds.r layout.kind_of.Reads.Post
@@ -83,6 +92,7 @@ pub record OneOutcome : Type 2 where
   pub use_a : OneFits shapes.use_a.Kinds.ps shapes.use_a.Kinds.r shapes.use_a.Reads.Post
   pub use_b : OneFits shapes.use_b.Kinds.ps shapes.use_b.Kinds.r shapes.use_b.Reads.Post
   pub sort_of : OneFits shapes.sort_of.Kinds.ps shapes.sort_of.Kinds.r shapes.sort_of.Reads.Post
+  pub language_of_byte : OneFits shapes.LanguageFromU8.from.Kinds.ps shapes.LanguageFromU8.from.Kinds.r shapes.LanguageFromU8.from.Reads.Post
   pub takes : OneFits shapes.takes.Kinds.ps shapes.takes.Kinds.r shapes.takes.Reads.Post
   -- copying
   pub copy : OneFits copying.copy.Kinds.ps copying.copy.Kinds.r copying.copy.Reads.Post
@@ -95,6 +105,7 @@ pub record OneOutcome : Type 2 where
   pub stars_refusal : OneFits stars.stars_refusal.Kinds.ps stars.stars_refusal.Kinds.r stars.stars_refusal.Reads.Post
   -- contexts
   pub find_contexts : OneFits contexts.find_contexts.Kinds.ps contexts.find_contexts.Kinds.r contexts.find_contexts.Reads.Post
+  pub context_of_word : OneFits contexts.ContextFromU16.from.Kinds.ps contexts.ContextFromU16.from.Kinds.r contexts.ContextFromU16.from.Reads.Post
   pub mode : OneFits contexts.Context.mode.Kinds.ps contexts.Context.mode.Kinds.r contexts.Context.mode.Reads.Post
   pub continuation : OneFits contexts.Context.continuation.Kinds.ps contexts.Context.continuation.Kinds.r contexts.Context.continuation.Reads.Post
   -- rulings
@@ -136,7 +147,11 @@ pub record OneOutcome : Type 2 where
   pub spell_formula : OneFits spelling.spell_formula.Kinds.ps spelling.spell_formula.Kinds.r spelling.spell_formula.Reads.Post
   -- expand, value, judge, translate, text, listing
   pub expand : OneFits expand.expand.Kinds.ps expand.expand.Kinds.r expand.expand.Reads.Post
+  pub valued_of_result :
+      OneFits value.ValuedFromResultU8Refusal.from.Kinds.ps value.ValuedFromResultU8Refusal.from.Kinds.r value.ValuedFromResultU8Refusal.from.Reads.Post
   pub value : OneFits value.value.Kinds.ps value.value.Kinds.r value.value.Reads.Post
+  pub judged_of_result :
+      OneFits judge.JudgedFromResultOptionFailureRefusal.from.Kinds.ps judge.JudgedFromResultOptionFailureRefusal.from.Kinds.r judge.JudgedFromResultOptionFailureRefusal.from.Reads.Post
   pub judge : OneFits judge.judge.Kinds.ps judge.judge.Kinds.r judge.judge.Reads.Post
   pub translate : OneFits translate.translate.Kinds.ps translate.translate.Kinds.r translate.translate.Reads.Post
   pub write_text : OneFits writes.write_text.Kinds.ps writes.write_text.Kinds.r writes.write_text.Reads.Post

@@ -10,11 +10,45 @@ pub enum Mode {
     Box,
 }
 
+// By the number of a modality's kind: a diamond's, and any other is a box's.
+impl From<u8> for Mode {
+    ghost use Rattle.std.specs.Prelude.{◌≡◌};
+    ghost use Rattle.records.specs.Kinds.{mode_meant};
+    ghost use Rattle.records.specs.Code.{mode_of};
+
+    ghost from_gives = { λ number mode. mode_meant mode ≡ mode_of number };
+
+    #[tactic(auto, unfolding(crate::specs::Code::mode_of))]
+    fn from(number: u8) -> Mode {
+        match number {
+            3 => Mode::Diamond,
+            _ => Mode::Box,
+        }
+    }
+}
+
 // Whether a move leads to the next instant or to the one before.
 #[derive(Clone, Copy, Debug, PartialEq, Eq)]
 pub enum Way {
     Ahead,
     Back,
+}
+
+// By the number of a move's kind: a step's, and any other is a back step's.
+impl From<u8> for Way {
+    ghost use Rattle.std.specs.Prelude.{◌≡◌};
+    ghost use Rattle.records.specs.Kinds.{way_meant};
+    ghost use Rattle.records.specs.Code.{way_of};
+
+    ghost from_gives = { λ number way. way_meant way ≡ way_of number };
+
+    #[tactic(auto, unfolding(crate::specs::Code::way_of))]
+    fn from(number: u8) -> Way {
+        match number {
+            5 => Way::Ahead,
+            _ => Way::Back,
+        }
+    }
 }
 
 // `End` is final and initial; `Beside` next, weak next, previous and weak previous; `Along` eventually, always, once and so far.

@@ -30,6 +30,22 @@ pub enum Language {
     Full,
 }
 
+// By number: 1 is the full one, and any other the core.
+impl From<u8> for Language {
+    ghost use Rattle.std.specs.Prelude.{◌≡◌};
+    ghost use Rattle.shapes.specs.Uses.{language_meant, language_of};
+
+    ghost from_gives = { λ number language. language_meant language ≡ language_of number };
+
+    #[tactic(auto, unfolding(crate::specs::Uses::language_of))]
+    fn from(number: u8) -> Language {
+        match number {
+            1 => Language::Full,
+            _ => Language::Core,
+        }
+    }
+}
+
 // What field a holds, by kind.
 #[tactic(auto, unfolding(meaning::specs::Record::columns_of, meaning::specs::Record::arguments_of))]
 pub fn use_a(kind: Kind) -> Use

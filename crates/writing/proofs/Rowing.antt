@@ -19,7 +19,8 @@ use Rattle.meaning.proofs.{RuleCount.record_few, RuleCount.rules_counted, RuleCo
 use Rattle.records.specs.Kinds.{mode_meant}
 use Rattle.paths.specs.Asking.{Formed}
 use Rattle.contexts.specs.declared.Context.{Context}
-use Rattle.contexts.specs.Contexts.{mode_named, held, no_context, entry_by, contexts_of}
+use Rattle.records.specs.declared.kind.Mode.TheVariants.{Diamond}
+use Rattle.contexts.specs.Contexts.{mode_named, held, entry_by, contexts_of}
 use Rattle.rulings.specs.Rows.{row_of, rows_of}
 use Rattle.copying.specs.Appended.{Appended}
 use Rattle.copying.proofs.Appending.{append_length, append_more, append_written}
@@ -34,6 +35,10 @@ formula_same m n x a b c d i =
 mode_again : (m : Mode) → mode_meant (mode_named m) ≡ m
 mode_again diamond = refl
 mode_again box = refl
+
+-- What the goals name for a place beyond the array; none is read.
+abbrev beyond : Context
+beyond = record { mode = Diamond; continuation = 0 }
 
 -- ---- by the record
 pub record_counted : (s : List ℕ) (A r : ℕ) → length (rules_at s A r) ≡ rule_number (kind_at s r) (context s r).mode
@@ -50,17 +55,17 @@ module _ {s : List ℕ} {A : ℕ} (w : WellFormed core s A) {r : ℕ} (l : r < c
   first_small = field_small (use_a (kind_at s r)) _ (w.first r l)
 
   -- What a path's entry holds.
-  entry_of : sort_of (kind_at s r) ≡ path → get_or (contexts_of s) r no_context ≡ held (context s r)
+  entry_of : sort_of (kind_at s r) ≡ path → get_or (contexts_of s) r beyond ≡ held (context s r)
   unfolding contexts_of entry_by
   entry_of e =
       let i : 1 * r + 0 ≡ r = omega arith in
-      rw i at (get_d_each 1 (λ q. entry_by (sort_of (kind_at s q)) (held (context s q)) ∷ []) (λ q. refl) no_context 0 (omega arith) most_records r (omega (arith, w.few)))
+      rw i at (get_d_each 1 (λ q. entry_by (sort_of (kind_at s q)) (held (context s q)) ∷ []) (λ q. refl) beyond 0 (omega arith) most_records r (omega (arith, w.few)))
       ∙ rw e
 
   module _ {contexts : List Context} (found : contexts ≡ contexts_of s) where
     -- The rules as the code asks for them.
     pub record_rules :
-        let u = get_or contexts r no_context in
+        let u = get_or contexts r beyond in
         rules_of (kind_at s r) (mode_meant u.mode) (label A r) (label A (field_a s r)) (label A (field_b s r))
         (label A u.continuation) (field_a s r) ≡ rules_at s A r
     unfolding rules_at
@@ -71,7 +76,7 @@ module _ {s : List ℕ} {A : ℕ} (w : WellFormed core s A) {r : ℕ} (l : r < c
 
 -- They are as many as the code counts.
 pub rules_number : {s : List ℕ} {r : ℕ} {contexts : List Context} → Formed s × (contexts ≡ contexts_of s) × (r < count s)
-    → rule_number (kind_at s r) (mode_meant (get_or contexts r no_context).mode) ≡ rule_number (kind_at s r) (context s r).mode
+    → rule_number (kind_at s r) (mode_meant (get_or contexts r beyond).mode) ≡ rule_number (kind_at s r) (context s r).mode
 rules_number {s} {r} (f, found, l) =
     sym (rules_counted (kind_at s r) _ _ _ _ _ _) ∙ ap length (record_rules {A = f.atoms} f.formed l found) ∙ record_counted s f.atoms r
 
