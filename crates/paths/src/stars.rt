@@ -22,16 +22,17 @@ enum Moves {
 }
 
 impl Moves {
-    // Those of a path made of two.
+    // Those of a path made of two. By comparing: a `match` on both has a jump for each in the compiled code, which is slower.
     fn join(self, other: Moves) -> Moves
         ensures { result ≡ joined self other }
     {
-        match (self, other) {
-            (Moves::Nowhere, _) => other,
-            (_, Moves::Nowhere) => self,
-            (Moves::Ahead, Moves::Ahead) | (Moves::Back, Moves::Back) => self,
-            _ => Moves::BothWays,
+        if self == Moves::Nowhere || self == other {
+            return other;
         }
+        if other == Moves::Nowhere {
+            return self;
+        }
+        Moves::BothWays
     }
 }
 

@@ -19,23 +19,29 @@ pub fn translate(records: &[u8], atoms: u64, out: &mut [u16]) -> Result<usize, R
     ensures count { counted result ≡ (translate_answer records.now atoms (length out.old)).count }
     ensures words { out.new ≡ translate_after records.now atoms out.old }
 {
-    let contexts = found_contexts(records, atoms, out.len())?;
+    let mut contexts = [Context::NONE; layout::MOST_RECORDS];
+    found_contexts(records, atoms, out.len(), &mut contexts)?;
     // A small number by now; `usize` has no `From<u64>`.
     Ok(writing::write_rules(records, atoms as usize, &contexts, out))
 }
 
-// Conditions in the specification's order: those of the formula, and then the room, in words. Where none applies, the contexts of its paths.
-fn found_contexts(records: &[u8], atoms: u64, room: usize) -> Result<Contexts, Refusal>
+// Conditions in the specification's order: those of the formula, and then the room, in words. Where none applies, the contexts of its paths
+// are stored: as a part of the result they would be copied.
+fn found_contexts(
+    records: &[u8],
+    atoms: u64,
+    room: usize,
+    contexts: &mut Contexts,
+) -> Result<(), Refusal>
     ensures refusal { refused result ≡ first_of (translate_grounds records.now atoms room) }
-    ensures contexts { IfOk result (λ contexts. contexts ≡ contexts_of records.now) }
+    ensures contexts { IfOk result (λ _. contexts.new ≡ contexts_of records.now) }
 {
     formula_refusal(records, atoms)?;
-    let mut contexts = [Context::NONE; layout::MOST_RECORDS];
-    contexts::find_contexts(records, &mut contexts);
-    if room < RULE_SIZE * writing::rule_count(records, &contexts) {
+    contexts::find_contexts(records, contexts);
+    if room < RULE_SIZE * writing::rule_count(records, contexts) {
         return Err(Refusal::NoRoom);
     }
-    Ok(contexts)
+    Ok(())
 }
 
 // Those of check, then 12 and 11 of each star.
