@@ -2,9 +2,9 @@
 // A tree that does not end within the 255 records of the buffer has no number after it. The number to write goes beside the buffer: what a
 // step's record has for children is told by numbers too.
 ghost use Rattle.std.specs.Prelude.{◌≡◌, true, ◌<◌, ◌≤◌};
-ghost use Rattle.meaning.specs.Record.{kind_at, most_records, record_bytes};
+ghost use Rattle.meaning.specs.Record.{kind_at, most_records};
 ghost use Rattle.expand.specs.Expanding.{Expandable, bytes_at, size_at, step_bytes, step_count, fits, Wrote};
-ghost use Rattle.expand.specs.Rows.{core_meant, step_meant};
+ghost use Rattle.expand.specs.Rows.{step_meant};
 
 use crate::steps;
 use crate::steps::{Core, Step};
@@ -46,35 +46,23 @@ fn write_step(
     ensures { Wrote (step_bytes records.now r (step_meant step) under n) n (step_count records.now r (step_meant step)) buffer.old result buffer.new }
 {
     match step {
-        Step::PartA => write_tree(records, layout::field_a(records, r), buffer, n),
-        Step::PartB => write_tree(records, layout::field_b(records, r), buffer, n),
-        Step::Atom => write_record(buffer, n, Core::Atom, layout::field_a(records, r), 0),
-        Step::Leaf(kind) => write_record(buffer, n, kind, 0, 0),
-        Step::One(kind) => write_record(buffer, n, kind, n.saturating_sub(1), 0),
-        Step::Two(kind) => write_record(
-            buffer,
-            n,
-            kind,
-            under.saturating_sub(1),
-            n.saturating_sub(1),
-        ),
+        Step::PartA => return write_tree(records, layout::field_a(records, r), buffer, n),
+        Step::PartB => return write_tree(records, layout::field_b(records, r), buffer, n),
+        _ => {}
     }
-}
-
-// One record as number n, unless the buffer is full.
-fn write_record(
-    buffer: &mut [u8; layout::MOST_BYTES],
-    n: usize,
-    kind: Core,
-    a: usize,
-    b: usize,
-) -> Option<usize>
-    requires { (a < 65_536) × (b < 65_536) }
-    ensures { Wrote (record_bytes (core_meant kind) a b) n 1 buffer.old result buffer.new }
-{
+    // One record as number n, unless the buffer is full. One match on all kinds of step is slower: its jump is mispredicted where kinds vary.
     if layout::MOST_RECORDS <= n {
         return None;
     }
+    let (kind, number) = match step {
+        Step::Leaf(kind) | Step::One(kind) | Step::Two(kind) => (kind, 0),
+        _ => (Core::Atom, layout::field_a(records, r)),
+    };
+    let (a, b) = match step {
+        Step::Two(_) => (under.saturating_sub(1), n.saturating_sub(1)),
+        Step::One(_) => (n.saturating_sub(1), 0),
+        _ => (number, 0),
+    };
     layout::put_record(buffer, n, kind.into(), a, b);
     Some(n + 1)
 }
