@@ -1,7 +1,7 @@
 // Writing the tree of a record into a buffer, step by step; a step that writes a part goes down to that part, the record number falling.
 // A tree that does not end within the 255 records of the buffer has no number after it. The number to write goes beside the buffer: what a
 // step's record has for children is told by numbers too.
-ghost use Rattle.std.specs.Prelude.{◌≡◌, true, ◌<◌, ◌≤◌};
+ghost use Rattle.std.specs.Prelude.{◌≡◌, true, ◌≤◌};
 ghost use Rattle.meaning.specs.Record.{kind_at, most_records};
 ghost use Rattle.expand.specs.Expanding.{Expandable, bytes_at, size_at, step_bytes, step_count, fits, Wrote};
 ghost use Rattle.expand.specs.Rows.{step_meant};

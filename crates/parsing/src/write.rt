@@ -135,7 +135,13 @@ fn push_stars(writer: &mut Writer, stars: usize)
     // The number of the next is set once: in each turn, it would be stored and read back.
     let first = writer.next;
     for i in 0..stars {
-        layout::put_record(writer.buffer, first + i, Kind::Star.into(), first + i - 1, 0);
+        layout::put_record(
+            writer.buffer,
+            first + i,
+            Kind::Star.into(),
+            first + i - 1,
+            0,
+        );
     }
     writer.next += stars;
 }
