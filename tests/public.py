@@ -15,7 +15,7 @@ FUNCTION = re.compile(r'^pub (?:extern "C" )?fn (\w+)(.*?)(?:^\{|\{$)', re.M | r
 # The methods of a type that is public itself.
 METHODS = re.compile(r"^impl(?:<[^>]*>)? (\w+)(?:<[^>]*>)? \{\n(.*?)^\}$", re.M | re.S)
 METHOD = re.compile(r"^    pub fn (\w+)(.*?)(?:^    \{|\{$)", re.M | re.S)
-CONVERSION = re.compile(r"^impl From<(.*)> for (\w+) \{$", re.M)
+CONVERSION = re.compile(r"^impl(?:<[^>]*>)? From<(.*)> for (\w+)(?:<[^>]*>)? \{$", re.M)
 
 def public_modules():
     """Yields (path by crates, text) of each."""

@@ -8,6 +8,7 @@ ghost use Rattle.refusals.specs.Refused.{refused, counted};
 ghost use Rattle.contexts.specs.Contexts.{contexts_of};
 
 use contexts::{Context, Contexts};
+use records::kind::Mode;
 use records::layout;
 use refusals::Refusal;
 use rules::RULE_SIZE;
@@ -19,7 +20,11 @@ pub fn translate(records: &[u8], atoms: u64, out: &mut [u16]) -> Result<usize, R
     ensures count { counted result ≡ (translate_answer records.now atoms (length out.old)).count }
     ensures words { out.new ≡ translate_after records.now atoms out.old }
 {
-    let mut contexts = [Context::NONE; layout::MOST_RECORDS];
+    // Of zero bytes, which cost nothing: each entry is written where the formula is accepted.
+    let mut contexts = [Context {
+        mode: Mode::Diamond,
+        continuation: 0,
+    }; layout::MOST_RECORDS];
     found_contexts(records, atoms, out.len(), &mut contexts)?;
     // A small number by now; `usize` has no `From<u64>`.
     Ok(writing::write_rules(records, atoms as usize, &contexts, out))
