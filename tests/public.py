@@ -1,6 +1,6 @@
 """Holds the list of public functions to the sources. A public function is one that another crate can call: a `pub fn` in a crate's lib.rt or in
 a module that lib.rt makes public, or of a public type there. Each has its field in crates/outcomes/specs/OneOutcome.antt, by name, and its row in docs/PROMISES.md; one that
-requires something has its row under "What functions require". So has each conversion, an `impl From` there, its field and its row. What the crate for C exports is each function of the front door, under its name and with
+requires something has its row under "What functions require". A conversion, an `impl From` there, has its field and its row too. What the crate for C exports is each function of the front door, under its name and with
 its contract. And every wrong program of docs/PROMISES.md is an edit, and every edit is there."""
 import pathlib
 import re
